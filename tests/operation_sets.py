@@ -1,4 +1,4 @@
-"""The group `sets` of tests/operations: tools/split-set splits sets of scenarios, and tools/join-sets joins what a night run makes of them."""
+"""The group `sets` of tests/operations: split-set splits sets of scenarios, and join-sets joins what a night run makes of them."""
 
 import os
 import random
@@ -15,11 +15,11 @@ MODES = ("half_even", "half_away", "floor", "ceil")
 
 
 def splits(title, status, *words):
-    own.gives(title, "", status, own.tool("split-set"), *words)
+    own.gives(title, "", status, *own.tool("split-set"), *words)
 
 
 def joins(title, want, status, *words, **how):
-    own.gives(title, want, status, own.tool("join-sets"), *words, **how)
+    own.gives(title, want, status, *own.tool("join-sets"), *words, **how)
 
 
 def quotient(mode, top, below):

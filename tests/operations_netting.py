@@ -1,4 +1,4 @@
-"""tools/join-positions, and night runs of positions, settle and novate, for tests/operations, whose functions `own` has."""
+"""join-positions, and night runs of positions, settle and novate, for tests/operations, whose functions `own` has."""
 
 import random
 
@@ -7,7 +7,7 @@ HEAD = f"portfolio 2;\namounts 2;\nstart 5;\nparty {', '.join(PARTIES)};\nasset 
 
 
 def joins(own, title, want, status, *words, **how):
-    own.gives(title, want, status, own.tool("join-positions"), *words, **how)
+    own.gives(title, want, status, *own.tool("join-positions"), *words, **how)
 
 
 def check_join(own):
@@ -76,7 +76,7 @@ def check_join_of_books(own):
     own.nights("positions", [own.counted(25, 25, 0, 0)], 0, "positions {} fixings.csv", books, "positions")
     own.nights("positions again", [own.counted(25, 0, 25, 0)], 0, "positions {} fixings.csv", books, "positions")
     files = [f"positions/{place}.txt" for place in range(25)]
-    joined = own.run(own.tool("join-positions"), *files)[0]
+    joined = own.run(*own.tool("join-positions"), *files)[0]
     one = own.run(own.program, "positions", "all.txt", "fixings.csv")[0]
     own.judge("positions of many books", one.count("\n") > 20 and joined == "".join(sorted(one.splitlines(True), key=by_name)), joined)
     own.nights("settle", [own.counted(25, 25, 0, 0)], 0, "settle {} --until 7 fixings.csv", books, "settle")

@@ -9,7 +9,7 @@ import subprocess
 from collections.abc import Callable
 
 TOP = os.path.normpath(os.path.join(os.path.dirname(os.path.abspath(__file__)), ".."))
-PARTS = ("README.md", "CHANGELOG.md", "LICENSE", "VERSION", "HANDLES", "commands.toml", "docs", "examples", "man", "completions", "editors")
+PARTS = ("README.md", "CHANGELOG.md", "LICENSE", "VERSION", "HANDLES", "commands.toml", "docs", "examples", "man", "completions", "editors", "desk")
 SCRIPTS = ("release", "tools")
 # It makes a library or the program where the real one does, the program of its one text, and has a guide in its folder.
 TOOLCHAIN = """#!/bin/sh

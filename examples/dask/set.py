@@ -5,6 +5,7 @@ run ends with 1.
 """
 
 import os
+import shutil
 import subprocess
 import sys
 import tempfile
@@ -12,7 +13,9 @@ import tempfile
 from distributed import Client
 from spread import answers
 
-TOOLS = os.path.join(os.path.dirname(os.path.realpath(__file__)), "..", "..", "tools")
+# In the PATH, or in the clone that this script is of.
+BESIDE = os.path.join(os.path.dirname(os.path.realpath(__file__)), "..", "..", "desk", "tilugba-desk")
+DESK = shutil.which("tilugba-desk") or BESIDE
 
 
 def read(path):
@@ -20,8 +23,8 @@ def read(path):
         return file.read()
 
 
-def run_tool(name, *words):
-    status = subprocess.run([os.path.join(TOOLS, name), *words], check=False).returncode
+def run_desk(name, *words):
+    status = subprocess.run([DESK, name, *words], check=False).returncode
     if status != 0:
         sys.exit(status)
 
@@ -41,9 +44,9 @@ def values_of(client, parts, files, options):
 scheduler, count, code, whole, curve, *options = sys.argv[1:]
 mode = options[options.index("--mean") + 1]
 with tempfile.TemporaryDirectory() as folder:
-    run_tool("split-set", whole, count, folder)
+    run_desk("split-set", whole, count, folder)
     parts = [os.path.join(folder, name) for name in sorted(os.listdir(folder))]
     with Client(scheduler) as client:
         if not values_of(client, parts, {"code": read(code), "curve": read(curve)}, options):
             sys.exit(1)
-    run_tool("join-sets", mode, *parts)
+    run_desk("join-sets", mode, *parts)

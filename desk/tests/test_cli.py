@@ -1,0 +1,79 @@
+"""The command itself: its subcommands, their words, and that no traceback reaches a user."""
+
+import subprocess
+import sys
+import unittest
+from types import ModuleType
+from unittest import mock
+
+from tests.support import DESK, Room, run_desk
+from tilugba import cli
+from tilugba.program import Stop
+
+
+def a_module(run: object) -> ModuleType:
+    module = ModuleType("a_module", "Does something.\n\nAnd says how.")
+    module.configure = lambda parser: parser.add_argument("word")
+    module.run = run
+    return module
+
+
+class Subcommands(unittest.TestCase):
+    def run_one(self, run: object, *words: str) -> tuple[int, str, str]:
+        with mock.patch.object(cli, "names", return_value=["some"]), mock.patch.object(cli, "module_of", return_value=a_module(run)):
+            ran = run_desk(*words)
+            return ran.status, ran.output, ran.errors
+
+    def test_a_run(self) -> None:
+        def run(arguments, desk):
+            desk.write(arguments.word, b"\n")
+            return 6
+
+        self.assertEqual(self.run_one(run, "some", "said"), (6, "said\n", ""))
+
+    def test_a_stop_is_one_line(self) -> None:
+        def run(arguments, desk):
+            raise Stop(7, "a table\nis bad")
+
+        self.assertEqual(self.run_one(run, "some", "x"), (7, "", "tilugba-desk some: a table is bad\n"))
+
+    def test_help(self) -> None:
+        status, output, _ = self.run_one(None, "some", "--help")
+        self.assertEqual(status, 0)
+        for said in ("Does something.", "And says how.", "--program PROGRAM", "--seconds N"):
+            self.assertIn(said, output)
+        status, output, _ = self.run_one(None, "--help")
+        self.assertEqual(status, 0)
+        self.assertIn("some              Does something.", output)
+
+    def test_wrong_words(self) -> None:
+        for words, said in [
+            ((), "a subcommand is missing"),
+            (("other",), "there is no subcommand other; it is one of: some"),
+            (("--other",), "--other"),
+            (("some",), "word"),
+            (("some", "x", "--seconds", "0"), "--seconds"),
+        ]:
+            with self.subTest(words=words):
+                status, output, errors = self.run_one(None, *words)
+                self.assertEqual((status, output), (2, ""))
+                self.assertIn(said, errors)
+
+    def test_every_subcommand_has_a_summary(self) -> None:
+        for name in cli.names():
+            self.assertRegex(cli.summary_of(cli.module_of(name))[0], r"^[A-Z].*[.]$")
+
+
+class Processes(Room):
+    def test_no_traceback(self) -> None:
+        script = "import sys; from tilugba import cli; cli.run = lambda *words: 1 / 0; sys.exit(cli.main())"
+        ran = subprocess.run([sys.executable, "-c", script], cwd=DESK, capture_output=True, text=True)
+        self.assertEqual(ran.returncode, 70)
+        self.assertEqual(ran.stderr, "tilugba-desk: this should not happen: ZeroDivisionError: division by zero\n")
+
+    def test_the_script_runs_from_any_folder(self) -> None:
+        link = self.folder / "td"
+        link.symlink_to(DESK / "tilugba-desk")
+        ran = subprocess.run([link, "--help"], cwd=self.folder, capture_output=True, text=True)
+        self.assertEqual((ran.returncode, ran.stderr), (0, ""))
+        self.assertTrue(ran.stdout.startswith("usage: tilugba-desk SUBCOMMAND"))

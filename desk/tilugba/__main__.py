@@ -1,0 +1,7 @@
+"""`python3 -m tilugba` is `tilugba-desk`."""
+
+import sys
+
+from .cli import main
+
+sys.exit(main())

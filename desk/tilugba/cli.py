@@ -1,0 +1,117 @@
+"""The command `tilugba-desk`: finds a subcommand among the modules of `commands`, reads its words and runs it."""
+
+from __future__ import annotations
+
+import argparse
+import importlib
+import pkgutil
+import sys
+from collections.abc import Sequence
+from pathlib import Path
+from types import ModuleType
+from typing import NoReturn
+
+from . import commands
+from .desk import COMMAND, Desk
+from .program import VARIABLE, Status, Stop
+
+PURPOSE = "The desk beside the program Tilugba. It computes no money and gives no verdict: it asks the program. Nothing in it is proved."
+
+
+def names() -> list[str]:
+    """The names of all subcommands."""
+    return sorted(module.name.replace("_", "-") for module in pkgutil.iter_modules(commands.__path__))
+
+
+def module_of(name: str) -> ModuleType:
+    return importlib.import_module(f"{commands.__name__}.{name.replace('-', '_')}")
+
+
+def summary_of(module: ModuleType) -> tuple[str, str]:
+    """The first line of a module's docstring, and what stands below it."""
+    first, _, rest = (module.__doc__ or "").strip().partition("\n")
+    return first, rest.strip()
+
+
+def overview() -> argparse.ArgumentParser:
+    """The parser that lists the subcommands."""
+    lines = [f"  {name:<18}{summary_of(module_of(name))[0]}" for name in names()]
+    parser = argparse.ArgumentParser(
+        prog=COMMAND,
+        usage=f"{COMMAND} SUBCOMMAND [OPTION..] ..",
+        description=PURPOSE,
+        epilog="subcommands:\n" + "\n".join(lines) + f"\n\n{COMMAND} SUBCOMMAND --help says more of one.",
+        formatter_class=argparse.RawDescriptionHelpFormatter,
+        allow_abbrev=False,
+    )
+    parser.add_argument("subcommand", metavar="SUBCOMMAND", help="one of the names below")
+    return parser
+
+
+def seconds(text: str) -> float:
+    number = float(text)
+    if not 0 < number < 1e9:
+        raise ValueError
+    return number
+
+
+class Parser(argparse.ArgumentParser):
+    """A parser whose subcommand says with which status it ends if its words are not right."""
+
+    usage_status: int = Status.USAGE
+
+    def error(self, message: str) -> NoReturn:
+        self.print_usage(sys.stderr)
+        self.exit(self.usage_status, f"{self.prog}: error: {message}\n")
+
+
+def parser_of(name: str, module: ModuleType) -> argparse.ArgumentParser:
+    """The parser of a subcommand's words, with the options that all have."""
+    first, rest = summary_of(module)
+    parser = Parser(
+        prog=f"{COMMAND} {name}",
+        description=f"{first}\n\n{rest}" if rest else first,
+        formatter_class=argparse.RawDescriptionHelpFormatter,
+        allow_abbrev=False,
+    )
+    parser.usage_status = getattr(module, "USAGE_STATUS", Status.USAGE)
+    shared = parser.add_argument_group("the program")
+    shared.add_argument(
+        "--program", metavar="PROGRAM", help=f"the program to run; otherwise that of {VARIABLE}, one beside this command, or in the PATH"
+    )
+    shared.add_argument("--seconds", metavar="N", type=seconds, help="end a run of the program after N seconds")
+    module.configure(parser)
+    return parser
+
+
+def run(words: Sequence[str], beside: Path) -> int:
+    """Runs the subcommand that the first word names, and returns the status."""
+    if not words:
+        overview().error("a subcommand is missing")
+    name = words[0]
+    if name in ("-h", "--help"):
+        overview().parse_args([name])
+    if name not in names():
+        overview().error(f"there is no subcommand {name}; it is one of: {', '.join(names())}")
+    module = module_of(name)
+    arguments = parser_of(name, module).parse_args(words[1:])
+    desk = Desk(name, beside, arguments.program, arguments.seconds)
+    try:
+        return module.run(arguments, desk)
+    except Stop as stop:
+        desk.complain(stop.message)
+        return stop.status
+
+
+def main() -> int:
+    """Runs the words of this process. No traceback reaches a user, whatever happens."""
+    try:
+        return run(sys.argv[1:], Path(sys.argv[0]).resolve().parent)
+    except SystemExit as ended:
+        return ended.code if isinstance(ended.code, int) else Status.USAGE
+    except KeyboardInterrupt:
+        return 130
+    except Exception as error:  # what a subcommand did not foresee is told in one line too
+        told = " ".join(str(error).split())
+        Desk("", Path()).complain(f"this should not happen: {type(error).__name__}: {told}")
+        return Status.DESK

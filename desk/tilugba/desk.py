@@ -1,0 +1,55 @@
+"""What a subcommand works with: the program, and where it prints."""
+
+from __future__ import annotations
+
+import os
+import sys
+from collections.abc import Iterable
+from dataclasses import dataclass
+from functools import cached_property
+from pathlib import Path
+from typing import BinaryIO
+
+from . import program
+from .program import Program, Status, Stop, reason_of
+
+COMMAND = "tilugba-desk"
+
+
+@dataclass
+class Desk:
+    """One run of a subcommand. `beside` is the folder of the command itself; the program is looked for when it is first asked for."""
+
+    name: str
+    beside: Path
+    program_path: str | None = None
+    seconds: float | None = None
+    output: BinaryIO | None = None
+    errors: BinaryIO | None = None
+
+    @cached_property
+    def program(self) -> Program:
+        return program.find(self.program_path, self.beside, self.seconds)
+
+    def write(self, *parts: str | bytes) -> None:
+        """Writes to standard output, whole, or ends the command with 4."""
+        out = self.output or sys.stdout.buffer
+        try:
+            out.writelines(part.encode() if isinstance(part, str) else part for part in parts)
+            out.flush()
+        except OSError as error:
+            raise Stop(Status.NOT_WRITTEN, f"the output was not written whole: {reason_of(error)}") from error
+
+    def tell(self, lines: Iterable[str]) -> None:
+        """Writes lines to standard error; what cannot be written there is lost."""
+        out = self.errors or sys.stderr.buffer
+        try:
+            out.writelines(os.fsencode(line) + b"\n" for line in lines)
+            out.flush()
+        except OSError:
+            pass
+
+    def complain(self, message: str) -> None:
+        """Says in one line why the subcommand ends."""
+        told = message.replace("\n", " ")
+        self.tell([f"{COMMAND} {self.name}: {told}" if self.name else f"{COMMAND}: {told}"])
