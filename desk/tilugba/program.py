@@ -9,10 +9,9 @@ from __future__ import annotations
 import enum
 import os
 import re
-import shutil
 import signal
 import subprocess
-from collections.abc import Callable, Iterator, Mapping, Sequence
+from collections.abc import Callable, Iterable, Iterator, Mapping, Sequence
 from contextlib import contextmanager
 from dataclasses import dataclass
 from pathlib import Path
@@ -151,32 +150,32 @@ MEANINGS: Mapping[int, str] = {
 
 WORD = "([A-Za-z_][A-Za-z0-9_]*)"
 COUNT = "([0-9]+)"
-ACCEPTED = re.compile(rf"{WORD} accepted start ([0-9]+|always) scale {COUNT} total ([0-9.]+) horizon {COUNT}")
-NOT_ACCEPTED = re.compile(rf"{WORD} refused ([a-z]+) node {COUNT}")
+ACCEPTED = rf"{WORD} accepted start ([0-9]+|always) scale {COUNT} total ([0-9.]+) horizon {COUNT}"
+NOT_ACCEPTED = rf"{WORD} refused ([a-z]+) node {COUNT}"
 
 # The form of the line of each status that has one, and the cause that its parts make.
-LINES: Mapping[int, tuple[re.Pattern[str], Callable[..., Cause]]] = {
+LINES: Mapping[int, tuple[str, Callable[..., Cause]]] = {
     Status.REFUSED: (
-        re.compile(rf"fault refused {WORD} ([a-z]+) node {COUNT}"),
+        rf"fault refused {WORD} ([a-z]+) node {COUNT}",
         lambda name, rule, node: Refusal(name, rule, int(node)),
     ),
-    Status.UNREAD: (re.compile(rf"fault read {COUNT}"), lambda place: UnreadFile(int(place))),
-    Status.TOO_LONG: (re.compile(rf"fault too long {COUNT}"), lambda place: LongFile(int(place))),
+    Status.UNREAD: (rf"fault read {COUNT}", lambda place: UnreadFile(int(place))),
+    Status.TOO_LONG: (rf"fault too long {COUNT}", lambda place: LongFile(int(place))),
     Status.TEXT: (
-        re.compile(rf"fault text ([a-z0-9]+) line {COUNT} column {COUNT}"),
+        rf"fault text ([a-z0-9]+) line {COUNT} column {COUNT}",
         lambda kind, line, column: BadText(kind, int(line), int(column)),
     ),
-    Status.UNKNOWN: (re.compile(rf"fault unknown {WORD}"), UnknownName),
-    Status.DAY: (re.compile(r"fault day (.+)"), BadDay),
+    Status.UNKNOWN: (rf"fault unknown {WORD}", UnknownName),
+    Status.DAY: (r"fault day (.+)", BadDay),
     Status.ROW: (
-        re.compile(rf"fault row file {COUNT} record {COUNT} ([a-z]+)(?: with {COUNT})?"),
+        rf"fault row file {COUNT} record {COUNT} ([a-z]+)(?: with {COUNT})?",
         lambda place, record, kind, earlier: BadRow(int(place), int(record), kind, int(earlier) if earlier else None),
     ),
     Status.MISSING: (
-        re.compile(rf"fault missing {WORD} (-?[0-9]+)(?: in {WORD})?"),
+        rf"fault missing {WORD} (-?[0-9]+)(?: in {WORD})?",
         lambda label, day, scenario: MissingFixing(label, int(day), scenario),
     ),
-    Status.SCENARIOS: (re.compile(rf"fault scenarios {COUNT}"), lambda count: TooManyScenarios(int(count))),
+    Status.SCENARIOS: (rf"fault scenarios {COUNT}", lambda count: TooManyScenarios(int(count))),
 }
 
 
@@ -186,8 +185,8 @@ class Fault(Stop):
     def __init__(self, status: int, line: str) -> None:
         super().__init__(status, line or MEANINGS.get(status, f"the program ended with status {status}"))
         self.line = line
-        form, cause_of = LINES.get(status, (None, None))
-        told = form.fullmatch(line) if form else None
+        form, cause_of = LINES.get(status, ("", None))
+        told = re.fullmatch(form, line)
         self.cause: Cause = cause_of(*told.groups()) if told and cause_of else None
 
 
@@ -225,10 +224,10 @@ class Answer:
 
 
 def verdict_of(line: str) -> Verdict:
-    if told := ACCEPTED.fullmatch(line):
+    if told := re.fullmatch(ACCEPTED, line):
         name, start, scale, total, horizon = told.groups()
         return Acceptance(name, start, int(scale), total, int(horizon))
-    if told := NOT_ACCEPTED.fullmatch(line):
+    if told := re.fullmatch(NOT_ACCEPTED, line):
         return Refusal(told[1], told[2], int(told[3]))
     raise Stop(Status.DESK, f"check printed a line that is no verdict: {line}")
 
@@ -321,13 +320,21 @@ def file_name(word: str | os.PathLike[str] | bytes, handles: list[int]) -> str:
 def find(named: str | None, beside: Path, seconds: float | None = None) -> Program:
     """The program that is named, or else that of the environment, one beside the command, in its clone, or in the PATH."""
     if given := named or os.environ.get(VARIABLE):
-        found = None if os.sep in given else shutil.which(given)
-        return Program(Path(found or given).absolute(), seconds)
-    for path in candidates(beside):
-        if path.is_file() and os.access(path, os.X_OK):
-            return Program(path.absolute(), seconds)
+        found = None if os.sep in given else first_program(in_path(given))
+        return Program(found or Path(given).absolute(), seconds)
+    if found := first_program(candidates(beside)):
+        return Program(found, seconds)
     built = f"; in a clone, ./{NAME} builds it" if is_clone(beside.parent) else ""
     raise Stop(Status.DESK, f"there is no program {NAME}: name it by --program or {VARIABLE}, or put it into the PATH{built}")
+
+
+def first_program(paths: Iterable[Path]) -> Path | None:
+    """The first of them that can be run."""
+    return next((path.absolute() for path in paths if path.is_file() and os.access(path, os.X_OK)), None)
+
+
+def in_path(name: str) -> Iterator[Path]:
+    return (Path(folder) / name for folder in os.get_exec_path())
 
 
 def is_clone(folder: Path) -> bool:
@@ -339,5 +346,4 @@ def candidates(beside: Path) -> Iterator[Path]:
     yield beside / NAME
     if is_clone(beside.parent):
         yield beside.parent / "built" / NAME
-    for folder in os.get_exec_path():
-        yield Path(folder) / NAME
+    yield from in_path(NAME)

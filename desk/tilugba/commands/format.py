@@ -14,7 +14,7 @@ from .. import files, formatting
 from ..desk import Desk
 from ..explanations import text_faults
 from ..program import Status, Stop
-from ..tables import read_file
+from ..files import read_file
 from ..texts.reading import Reading
 
 

@@ -24,7 +24,7 @@ from ..desk import Desk
 from ..explanations.explaining import Run, notes_of
 from ..explanations.rows import Table
 from ..program import Answer, Status
-from ..tables import read_file
+from ..files import read_file
 from ..texts.grammar import PORTFOLIO
 from ..texts.reading import Reading
 

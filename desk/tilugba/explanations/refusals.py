@@ -10,6 +10,7 @@ from ..texts import trees
 from ..texts.grammar import SCHEDULES, Grammar
 from ..texts.measures import Kind, Measures, wanted_sorts
 from ..texts.names import Declared, NameSet
+from ..texts.offers import number_told
 from ..texts.reading import Reading
 from ..texts.trees import Term
 from .notes import Note, counted, listed
@@ -191,12 +192,6 @@ def bound_lines(node: Node) -> Iterator[str]:
         yield "a contract pays at most 10^27 and no number is above 10^37, counted in the last decimal: narrow the bounds, or round earlier"
     else:
         yield "no number is above 10^37, counted in its last decimal: narrow the bounds, or round the parts"
-
-
-def number_told(mantissa: int, decimals: int) -> str:
-    digits = str(abs(mantissa)).rjust(decimals + 1, "0")
-    sign = "-" if mantissa < 0 else ""
-    return f"{sign}{digits[:-decimals]}.{digits[-decimals:]}" if decimals else sign + digits
 
 
 TELLERS: dict[str, Callable[[Node], Iterator[str]]] = {
