@@ -1,135 +1,119 @@
-//! Rows of payoff code: texts that are read, or have a first fault, canonical texts, and verdicts.
+//! Calls on payoff code: what a contract is compiled to, its cut, its canonical text, and room for
+//! its names.
 
-ghost use Rattle.std.specs.Prelude.{◌*◌, ◌≡◌, ◌≤◌, ◌<◌, ◌+◌, length, IfOk};
-ghost use Rattle.term_model.specs.Limits.{most_counted, most_height_of_code};
+ghost use Rattle.std.specs.Prelude.{◌≡◌, ◌≤◌, length};
+ghost use Rattle.term_model.specs.Limits.{most_counted};
+ghost use Rattle.term_model.specs.Acceptance.{IsAccepted};
 ghost use Rattle.term_model.specs.Declarations.{declarations};
+ghost use Rattle.term_model.specs.Instances.{declared_numbers, instance};
+ghost use Rattle.term_model.specs.Terms.{contract};
+ghost use Rattle.term_model.specs.WellFormed.{IsClosed};
 ghost use Rattle.payoff_terms.specs.Code.{payoff_code};
-ghost use Rattle.payoff_terms.specs.CodeSizes.{height_of_code, nodes_of_code};
 ghost use Rattle.payoff_terms.specs.WritableCode.{IsWritableCode};
 
-use crate::above::Above;
-use crate::bad_row::{Answer, BadRow};
-use crate::printing::{
-    append, append_decimal, say_check_fault, say_decimal, say_parse_fault, say_read,
-};
-use decimal::NoMemory;
-use payoff_check::{CodeFacts, check_code};
+use crate::call_err::{Answer, CallErr};
+use crate::files::{accept, code_of};
+use crate::forms::at_defaults;
+use crate::printing::{say_parse_fault, say_same};
+use payoff_compile::{compile, cut};
+use payoff_eval::value_scratch;
 use payoff_lang::laws::code_of_text_is_printable;
 use payoff_lang::{parse_code, print_code};
 use payoff_terms::laws::printable_is_writable;
 use payoff_terms::{Code, CodeFile};
+use row_language::push_output;
 use std::alloc::Global;
-use term_model::Setting;
+use term_core::is_closed;
+use term_model::{Contr, Decls, MOST_COUNTED};
 
-/// `parse_code TEXT`: `read`, or the first fault.
-pub fn read_code(alloc: Global, text: &[u8], out: &mut Vec<u8>) -> Answer
-    requires { length text.now ≤ most_counted }
+// Whether the code of a contract is the first code, and its cut the second.
+fn say_compiled(
+    alloc: Global,
+    decls: &Decls,
+    c: &Contr,
+    wanted: &Code,
+    wanted_cut: &Code,
+    out: &mut String,
+) -> Answer
+    requires closed { IsClosed (declarations decls.now) (contract c.now) }
+    requires accepted { IsAccepted (declarations decls.now)
+        (instance (declared_numbers (declarations decls.now)) (contract c.now)) }
 {
-    let read = parse_code(alloc, text);
-    say_read(alloc, &read, out)
+    let code = compile(alloc, decls, c)?;
+    say_same(code == *wanted, out)?;
+    let rest = cut(alloc, code)?;
+    say_same(rest == *wanted_cut, out)
 }
 
-// The canonical text of a code file.
-fn print_file(alloc: Global, file: &CodeFile, out: &mut Vec<u8>) -> Answer
+// The same of a contract that may be refused.
+fn say_if_accepted(
+    alloc: Global,
+    decls: &Decls,
+    c: &Contr,
+    wanted: &Code,
+    wanted_cut: &Code,
+    out: &mut String,
+) -> Answer {
+    if !is_closed(decls, c) {
+        return Err(CallErr::Text);
+    }
+    let made = at_defaults(alloc, decls, c)?;
+    accept(alloc, decls, &made)?;
+    say_compiled(alloc, decls, c, wanted, wanted_cut, out)
+}
+
+/// `compile FILE PLAIN CUT`: whether the first contract of a portfolio has the code of one code
+/// file, and the cut of this code is that of the other.
+pub fn compiled(
+    alloc: Global,
+    decls: &Decls,
+    c: &Contr,
+    plain: &[u8],
+    cuts: &[u8],
+    out: &mut String,
+) -> Answer {
+    let wanted = code_of(alloc, plain)?;
+    let wanted_cut = code_of(alloc, cuts)?;
+    say_if_accepted(alloc, decls, c, &wanted.code, &wanted_cut.code, out)
+}
+
+// Appends the canonical text of a code file.
+fn say_file(alloc: Global, file: &CodeFile, out: &mut String) -> Answer
     requires version { (declarations file.now.decls).version ≡ 1 }
     requires writable { IsWritableCode (payoff_code file.now.code) }
 {
-    print_code(alloc, out, file)?;
+    let mut text = Vec::new(alloc);
+    print_code(alloc, &mut text, file)?;
+    push_output(out, &text)?;
     Ok(())
 }
 
-/// `print_code TEXT`: the canonical text.
-pub fn printed_code(alloc: Global, text: &[u8], out: &mut Vec<u8>) -> Answer
+// The same of a text that is short.
+fn say_printed(alloc: Global, text: &[u8], out: &mut String) -> Answer
     requires { length text.now ≤ most_counted }
 {
     match parse_code(alloc, text) {
         Ok(file) => {
             code_of_text_is_printable();
             printable_is_writable();
-            print_file(alloc, &file, out)
+            say_file(alloc, &file, out)
         }
-        Err(error) => say_parse_fault(alloc, error, out),
+        Err(error) => say_parse_fault(error, out),
     }
 }
 
-// The code file of a text.
-fn file_in(alloc: Global, text: &[u8]) -> Result<CodeFile, BadRow>
-    requires { length text.now ≤ most_counted }
-    ensures low { IfOk result
-        (λ file. height_of_code (payoff_code file.code) ≤ most_height_of_code) }
-    ensures small { IfOk result (λ file. nodes_of_code (payoff_code file.code) < most_counted) }
-{
-    match parse_code(alloc, text) {
-        Ok(file) => Ok(file),
-        Err(_) => Err(BadRow::Text),
+/// `print_code FILE`: the canonical text of a code file, or its first fault.
+pub fn printed(alloc: Global, text: &[u8], out: &mut String) -> Answer {
+    if text.len() > MOST_COUNTED as usize {
+        return Err(CallErr::Range);
     }
+    say_printed(alloc, text, out)
 }
 
-// The code file of an amount.
-fn file_of(alloc: Global, above: &Above, amount: &str) -> Result<CodeFile, BadRow>
-    ensures low { IfOk result
-        (λ file. height_of_code (payoff_code file.code) ≤ most_height_of_code) }
-    ensures small { IfOk result (λ file. nodes_of_code (payoff_code file.code) < most_counted) }
-{
-    let text = above.sentence(alloc, "code c = ", amount)?;
-    file_in(alloc, &text)
-}
-
-// The scale and the total of code, in units of this scale.
-fn say_facts(alloc: Global, facts: CodeFacts, out: &mut Vec<u8>) -> Answer {
-    append(out, "accepted scale ")?;
-    append_decimal(alloc, facts.scale as i128, 0, out)?;
-    append(out, " total ")?;
-    say_decimal(alloc, facts.total, 0, out)
-}
-
-// The verdict on code at the numbers of its templates.
-fn say_verdict(alloc: Global, file: &CodeFile, days: &[u32], out: &mut Vec<u8>) -> Answer
-    requires low { height_of_code (payoff_code file.now.code) ≤ 1_000 }
-    requires small { nodes_of_code (payoff_code file.now.code) < 2 * most_counted }
-{
-    let days = Vec::from_slice(alloc, days)?;
-    match check_code(alloc, file, &Setting { days }) {
-        Ok(facts) => say_facts(alloc, facts, out),
-        Err(error) => say_check_fault(alloc, error, out),
-    }
-}
-
-/// `check_code AMOUNT`: the scale and the total of the code, in units of this scale, or the rule
-/// that it breaks.
-pub fn checked_code(alloc: Global, above: &Above, words: &str, out: &mut Vec<u8>) -> Answer {
-    let file = file_of(alloc, above, words)?;
-    say_verdict(alloc, &file, &above.days, out)
-}
-
-// Nothing and an amount.
-fn added(alloc: Global, code: Code) -> Result<Code, NoMemory>
-    ensures low { IfOk result
-        (λ k. height_of_code (payoff_code k) ≤ height_of_code (payoff_code code) + 1) }
-    ensures small { IfOk result
-        (λ k. nodes_of_code (payoff_code k) ≤ nodes_of_code (payoff_code code) + 2) }
-{
-    let left = Box::new(alloc, Code::None)?;
-    let right = Box::new(alloc, code)?;
-    Ok(Code::Add { left, right })
-}
-
-// A code file with nothing and its amount.
-fn added_to(alloc: Global, file: CodeFile) -> Result<CodeFile, NoMemory>
-    requires low { height_of_code (payoff_code file.code) ≤ most_height_of_code }
-    requires small { nodes_of_code (payoff_code file.code) < most_counted }
-    ensures low { IfOk result (λ whole. height_of_code (payoff_code whole.code) ≤ 1_000) }
-    ensures small { IfOk result
-        (λ whole. nodes_of_code (payoff_code whole.code) < 2 * most_counted) }
-{
-    let CodeFile { decls, name, code } = file;
-    let code = added(alloc, code)?;
-    Ok(CodeFile { decls, name, code })
-}
-
-/// `check_code_added AMOUNT`: the verdict on the code of a text with one more term round it, since
-/// no text is higher than what is accepted.
-pub fn checked_added(alloc: Global, above: &Above, words: &str, out: &mut Vec<u8>) -> Answer {
-    let file = added_to(alloc, file_of(alloc, above, words)?)?;
-    say_verdict(alloc, &file, &above.days, out)
+/// `value_scratch FILE`: that there is room for the names of a code file.
+pub fn has_room(alloc: Global, text: &[u8], out: &mut String) -> Answer {
+    let file = code_of(alloc, text)?;
+    value_scratch(alloc, &file)?;
+    out.push_str("| room\n")?;
+    Ok(())
 }

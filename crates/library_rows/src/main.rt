@@ -1,65 +1,74 @@
-//! Rows that try the public calls of the libraries. Each line of the standard input is a row, and
-//! what its call answers is printed, as words. `stdin` has the rows and `stdout` the answers that
-//! they must have, as known from outside.
+//! Rows that try the public calls of the libraries that no command reaches, or that a command
+//! reaches on other data. The program reads rows from its standard input (`stdin` beside this
+//! folder) and prints what each call answers. The gate compares that with `stdout`, byte for byte.
+//! What a row must print comes from the written rules, and never from the program's own output.
 //!
 //! ```text
-//! under portfolio 1;\namounts 2;\nparty A, B;\nasset EUR;\n
-//! parse_portfolio contract c = pay(EUR, A,\nD);
-//! check scale(1.00, pay(EUR, A, B))
+//! == both parts pay nothing
+//! file c = P
+//! | contract c = both(zero, scale(0.0, pay(EUR, A, B)));
+//! | contract left = zero;
+//! simplify|c
 //! ```
 //!
-//! A row is the name of a call, its words, and last a text, each behind one blank (`calls.rt` has
-//! the names, and the function of each call the words that it takes). In a text `\n`, `\r` and `\t`
-//! are a line feed, a carriage return and a tab, `\xff` is the byte 255, and `\[199:after(1, \]` is
-//! what stands behind the colon, 199 times (`spelling.rt`). A row that begins with `under`, `over`
-//! or `at` prints nothing. It sets the text before that of each row below it, the table of fixings,
-//! or the numbers of the templates (`above.rt`). A row that is empty or begins with `#` is printed
-//! as it stands, so the answers have the headings of the rows.
+//! prints, with `text P` and its declarations above it,
 //!
-//! Promised: nothing to other crates. A row of another form ends the program with a status that is
-//! not 0.
+//! ```text
+//! == both parts pay nothing
+//! simplify|c
+//! | as wanted
+//! ```
+//!
+//! Rows, texts, files and pieces are those of `row_language`. A further line is a call: its name,
+//! the name of a file, and further words, with a bar between. `calls.rt` has the names, and the
+//! function of each call says what its words are. Most take a portfolio: its first contract is what
+//! the call takes, and its second one what it has to make. Any other line ends the program with
+//! status 1 and a message that has the line's number.
+//!
+//! Promised: nothing to other crates.
 //! Only tested: all that `stdin` tries.
 #![tactic(auto)]
 
-mod above;
-mod bad_row;
+mod call_err;
 mod calls;
-mod cases;
 mod codes;
-mod compiling;
-mod contracts;
-mod curves;
-mod decimals;
 mod evaluating;
-mod fixings;
-mod flows;
-mod lines;
-mod making;
-mod of_contracts;
-mod of_decls;
+mod files;
+mod forms;
 mod printing;
-mod settings;
-mod spelling;
+mod residuals;
+mod rules;
+mod scenarios;
 mod texts;
 mod tokens;
 mod words;
-mod writable;
 
-use above::Above;
 use anyhow::{Context, Result};
+use call_err::Answer;
 use calls::answer;
+use row_language::{Rows, Taken};
+use std::alloc::Global;
+use std::io;
+
+// Does what the next line says, and appends what is to be printed.
+fn take<'a>(alloc: Global, rows: &mut Rows<'a>, line: &'a str, out: &mut String) -> Answer {
+    match rows.take(line, out)? {
+        Taken::Read | Taken::Begun => Ok(()),
+        Taken::Other { .. } => answer(alloc, rows, line, out),
+    }
+}
 
 fn main(rt: HostRuntime) -> Result<()> {
-    let mut above = Above::nothing(rt.alloc());
-    let mut number = 0u64;
-    for line in rt.lines(rt.alloc()) {
-        number = number.saturating_add(1);
-        let line = line?;
-        let mut out = Vec::new(rt.alloc());
-        answer(rt.alloc(), &mut above, line.as_str(), &mut out).context(format_args!(
-            "row {number}"
+    let alloc = rt.alloc();
+    let text = io::read_to_string(alloc, rt.reader())?;
+    let mut rows = Rows::new(alloc);
+    for (place, line) in text.as_str().split('\n').enumerate() {
+        let mut out = String::new(alloc);
+        take(alloc, &mut rows, line, &mut out).context(format_args!(
+            "line {}",
+            place.saturating_add(1)
         ))?;
-        rt.write_all(&out)?;
+        rt.print(out)?;
     }
     Ok(())
 }

@@ -1,58 +1,45 @@
-//! The words of a row.
+//! The words of a call.
 
-ghost use Rattle.std.specs.Prelude.{◌≡◌, true, IfOk};
-ghost use Rattle.term_model.specs.Limits.{is_a_version};
+ghost use Rattle.std.specs.Prelude.{◌≡◌, ◌≤ℤ◌, ◌≤◌, ◌^◌, pos, true, unsigned_abs, IfOk};
+ghost use Rattle.term_model.specs.Limits.{is_a_version, last_start};
 
-use crate::bad_row::BadRow;
-use decimal::Mode;
+use crate::call_err::CallErr;
+use row_language::{RowErr, number_of};
+use term_model::LAST_START;
 
-/// The first word of a text, and what stands behind the blank after it.
-pub fn first_word(text: &str) -> (&str, &str) {
-    match text.split_once(' ') {
-        Some(parts) => parts,
-        None => (text, ""),
-    }
-}
-
-/// A whole number, as a day or an amount.
-pub fn integer(word: &str) -> Result<i128, BadRow> {
-    match word.parse::<i128>() {
-        Ok(number) => Ok(number),
-        Err(_) => Err(BadRow::Word),
-    }
-}
-
-/// A day.
-pub fn day(word: &str) -> Result<i64, BadRow> {
-    match word.parse::<i64>() {
-        Ok(number) => Ok(number),
-        Err(_) => Err(BadRow::Word),
-    }
+/// The first word, and what stands behind the bar after it.
+pub fn first_word(words: &str) -> (&str, &str) {
+    words.split_once('|').unwrap_or((words, ""))
 }
 
 /// A count, or a place.
-pub fn count(word: &str) -> Result<u32, BadRow> {
-    match word.parse::<u32>() {
+pub fn count(word: &str) -> Result<u32, CallErr> {
+    match u32::try_from(number_of(word)?) {
         Ok(number) => Ok(number),
-        Err(_) => Err(BadRow::Word),
+        Err(_) => Err(CallErr::Row(RowErr::Number)),
     }
 }
 
-/// A scale.
-pub fn scale(word: &str) -> Result<u8, BadRow> {
-    match word.parse::<u8>() {
-        Ok(number) => Ok(number),
-        Err(_) => Err(BadRow::Word),
+/// A day on which a contract can stand.
+pub fn frame(word: &str) -> Result<i64, CallErr>
+    ensures first { IfOk result (λ day. pos 0 ≤ℤ day) }
+    ensures last { IfOk result (λ day. day ≤ℤ pos last_start) }
+    ensures near { IfOk result (λ day. unsigned_abs day ≤ 10 ^ 12) }
+{
+    let day = count(word)?;
+    if day > LAST_START {
+        return Err(CallErr::Range);
     }
+    Ok(day as i64)
 }
 
 /// A version of portfolios.
-pub fn version(word: &str) -> Result<u8, BadRow>
+pub fn version(word: &str) -> Result<u8, CallErr>
     ensures { IfOk result (λ version. is_a_version version ≡ true) }
 {
     match word {
         "1" => Ok(1),
         "2" => Ok(2),
-        _ => Err(BadRow::Word),
+        _ => Err(CallErr::Range),
     }
 }

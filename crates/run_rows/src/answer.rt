@@ -1,33 +1,8 @@
 //! What is printed of a run.
 
 use contract_cli::Status;
-use std::alloc::{AllocError, Global};
-
-// Appends a byte: one that is no ASCII character that can be seen, and a backslash, as a backslash
-// and two hexadecimal digits.
-fn push_byte(out: &mut String, byte: u8) -> Result<(), AllocError> {
-    if byte == b' ' || (byte.is_ascii_graphic() && byte != b'\\') {
-        out.push(char::from(byte))
-    } else {
-        write!(out, "\\{byte:02x}")
-    }
-}
-
-// Appends a line of an output, or what stands behind its last line feed.
-fn push_piece(out: &mut String, piece: &[u8]) -> Result<(), AllocError> {
-    let (mark, bytes) = match piece.split_last() {
-        Some((b'\n', line)) => ("|", line),
-        _ => ("+", piece),
-    };
-    out.push_str(mark)?;
-    if !bytes.is_empty() {
-        out.push_str(" ")?;
-    }
-    for byte in bytes {
-        push_byte(out, *byte)?;
-    }
-    out.push_str("\n")
-}
+use row_language::push_output;
+use std::alloc::AllocError;
 
 /// Appends the line of a run with its status, and the bytes of its output.
 pub fn push_answer(
@@ -38,10 +13,7 @@ pub fn push_answer(
 ) -> Result<(), AllocError> {
     let number = status.number();
     write!(out, "{line}: {number} {status:?}\n")?;
-    for piece in output.split_inclusive(|byte| *byte == b'\n') {
-        push_piece(out, piece)?;
-    }
-    Ok(())
+    push_output(out, output)
 }
 
 /// Appends the line of runs over fronts, and their statuses: one line for those that are the same

@@ -1,7 +1,5 @@
 //! The rows, line by line.
 
-use crate::answer::{push_answer, push_statuses};
-use crate::row::{Desk, Front, Row};
 use crate::row_err::RowErr;
 use crate::text::{Named, counted, find, piece_of, push_repeated, wrapped};
 use std::alloc::Global;
@@ -15,72 +13,98 @@ enum Open<'a> {
     File(&'a str),
 }
 
-/// The texts so far, the row that is read, and what its last run has left.
+/// What became of a line.
+#[derive(Clone, Copy)]
+pub enum Taken<'a> {
+    /// It was read.
+    Read,
+    /// It begins a row.
+    Begun,
+    /// It is none of this language. It has its first word, and what stands behind the blank.
+    Other { word: &'a str, rest: &'a str },
+}
+
+/// The texts so far, and the files of the row that is read.
 #[derive(Drop)]
 pub struct Rows<'a> {
     alloc: Global,
     texts: Vec<Named<'a>>,
     open: Open<'a>,
     bytes: Vec<u8>,
-    row: Row<'a>,
+    files: Vec<Named<'a>>,
     before: Vec<Named<'a>>,
-    desk: Option<Desk>,
 }
 
 impl<'a> Rows<'a> {
-    /// No texts, and a row without a name.
+    /// No texts, and a row without a name and without files.
     pub fn new(alloc: Global) -> Rows<'a> {
         Rows {
             alloc,
             texts: Vec::new(alloc),
             open: Open::Nothing,
             bytes: Vec::new(alloc),
-            row: Row::new(alloc),
+            files: Vec::new(alloc),
             before: Vec::new(alloc),
-            desk: None,
         }
     }
 
+    /// The files of the row, the later before the earlier.
+    pub fn files(&self) -> &[Named<'a>] {
+        &self.files
+    }
+
+    /// What the file of this name contains.
+    pub fn file(&self, name: &str) -> Result<&[u8], RowErr> {
+        find(&self.files, name).ok_or(RowErr::NoFile)
+    }
+
     /// Does what the next line says, and appends what is to be printed.
-    pub fn take(&mut self, line: &'a str, out: &mut String) -> Result<(), RowErr> {
+    pub fn take(&mut self, line: &'a str, out: &mut String) -> Result<Taken<'a>, RowErr> {
         if line.is_empty() || line.starts_with('#') {
-            return Ok(());
+            return Ok(Taken::Read);
         }
         let (word, rest) = line.split_once(' ').unwrap_or((line, ""));
         match word {
-            "|" => self.append(rest, "\n"),
-            "+" => self.append(rest, ""),
-            "add" => self.add(rest),
-            "repeat" => self.repeat(rest),
-            "wrap" => self.wrap(rest),
-            _ => {
-                self.close()?;
-                self.begin(line, word, rest, out)
-            }
+            "|" => self.append(rest, "\n")?,
+            "+" => self.append(rest, "")?,
+            "add" => self.add(rest)?,
+            "repeat" => self.repeat(rest)?,
+            "wrap" => self.wrap(rest)?,
+            _ => return self.begin(line, word, rest, out),
         }
+        Ok(Taken::Read)
+    }
+
+    /// Gives bytes a name, as a text that goes on.
+    pub fn keep(&mut self, name: &'a str, bytes: Vec<u8>) -> Result<(), RowErr> {
+        self.begin_text(name)?;
+        self.bytes = bytes;
+        Ok(())
     }
 
     // A line that is no part of a text.
     fn begin(
         &mut self,
         line: &'a str,
-        word: &str,
+        word: &'a str,
         rest: &'a str,
         out: &mut String,
-    ) -> Result<(), RowErr> {
+    ) -> Result<Taken<'a>, RowErr> {
+        self.close()?;
         match word {
-            "==" => self.begin_row(line, out),
-            "text" => self.begin_text(rest),
-            "file" => self.begin_file(rest),
-            "files" if rest == "as before" => {
-                self.row.files = mem::replace(&mut self.before, Vec::new(self.alloc));
-                Ok(())
+            "==" => {
+                self.begin_row();
+                write!(out, "{line}\n")?;
+                return Ok(Taken::Begun);
             }
-            "failing" | "most" | "room" | "first" => self.row.set(self.alloc, word, rest),
-            "keep" => self.keep(rest),
-            "fronts" => self.run_fronts(line, rest, out),
-            _ => self.run(line, out),
+            "text" => self.begin_text(rest)?,
+            "file" => self.begin_file(rest)?,
+            "files" if rest == "as before" => {
+                self.files = mem::replace(&mut self.before, Vec::new(self.alloc));
+            }
+            _ => return Ok(Taken::Other { word, rest }),
         }
+        Ok(Taken::Read)
     }
 
     // Ends the text or the file that has begun.
@@ -91,17 +115,13 @@ impl<'a> Rows<'a> {
         match open {
             Open::Nothing => {}
             Open::Text(name) => self.texts.push(Named { name, bytes })?,
-            Open::File(name) => self.row.files.push(Named { name, bytes })?,
+            Open::File(name) => self.files.insert(0, Named { name, bytes })?,
         }
         Ok(())
     }
 
-    fn begin_row(&mut self, line: &str, out: &mut String) -> Result<(), RowErr> {
-        let row = mem::replace(&mut self.row, Row::new(self.alloc));
-        self.before = row.files;
-        self.desk = None;
-        write!(out, "{line}\n")?;
-        Ok(())
+    fn begin_row(&mut self) {
+        self.before = mem::replace(&mut self.files, Vec::new(self.alloc));
     }
 
     fn begin_text(&mut self, name: &'a str) -> Result<(), RowErr> {
@@ -160,55 +180,6 @@ impl<'a> Rows<'a> {
         let (times, piece) = counted(self.alloc, rest)?;
         let inner = mem::replace(&mut self.bytes, Vec::new(self.alloc));
         self.bytes = wrapped(self.alloc, inner, times, &piece)?;
-        Ok(())
-    }
-
-    // `run`, `run|WORD|WORD` or `again|WORD|WORD`.
-    fn run(&mut self, line: &str, out: &mut String) -> Result<(), RowErr> {
-        if let Some(words) = line.strip_prefix("again|") {
-            return self.answer(line, Some(words), out);
-        }
-        let words = line.strip_prefix("run|");
-        if words.is_none() && line != "run" {
-            return Err(RowErr::Form);
-        }
-        self.desk = Some(self.row.desk(self.alloc, None)?);
-        self.answer(line, words, out)
-    }
-
-    // A run over the files and the sink that are there.
-    fn answer(&mut self, line: &str, words: Option<&str>, out: &mut String) -> Result<(), RowErr> {
-        let Some(desk) = &mut self.desk else {
-            return Err(RowErr::NoRun);
-        };
-        let status = desk.run(self.alloc, words)?;
-        let taken = desk.taken();
-        let shown = taken.get(..self.row.first).unwrap_or(taken);
-        push_answer(out, line, status, shown)?;
-        Ok(())
-    }
-
-    // `FILE|WORD|WORD`: a run for each proper front of the file.
-    fn run_fronts(&self, line: &str, rest: &str, out: &mut String) -> Result<(), RowErr> {
-        let (file, words) = rest.split_once('|').ok_or(RowErr::Form)?;
-        let whole = find(&self.row.files, file).ok_or(RowErr::NoFile)?;
-        let mut statuses = Vec::new(self.alloc);
-        for length in 0..whole.len() {
-            let mut desk = self.row.desk(self.alloc, Some(Front { file, length }))?;
-            statuses.push(desk.run(self.alloc, Some(words))?)?;
-        }
-        push_statuses(out, line, &statuses)?;
-        Ok(())
-    }
-
-    // Gives what the sink holds a name.
-    fn keep(&mut self, name: &'a str) -> Result<(), RowErr> {
-        let Some(desk) = &self.desk else {
-            return Err(RowErr::NoRun);
-        };
-        let bytes = desk.taken().to_vec(self.alloc)?;
-        self.begin_text(name)?;
-        self.bytes = bytes;
         Ok(())
     }
 }

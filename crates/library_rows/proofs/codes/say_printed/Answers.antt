@@ -1,10 +1,10 @@
 use Rattle.term_model.specs.Declarations.{declarations}
 use Rattle.payoff_terms.specs.Code.{payoff_code}
 use Rattle.payoff_terms.specs.CodeBooks.{code_book}
-use Rattle.library_rows.proofs.codes.printed_code.Goals as goal
+use Rattle.library_rows.proofs.codes.say_printed.Goals as goal
 
-pub print_file-requires : goal.print_file-requires
-print_file-requires c =
+pub say_file-requires : goal.say_file-requires
+say_file-requires c =
     let file = c.in-Ok.file in
     record {
       version = c.in-Ok.ensures.answer.version;

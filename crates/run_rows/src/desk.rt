@@ -1,19 +1,16 @@
-//! A row: its files and its sink, and a run over them.
+//! The files and the sink of a row, and a run over them.
 
-use crate::row_err::RowErr;
-use crate::text::{Named, number_of};
 use contract_cli::{Status, run};
 use edge_io::{Entry, MemoryFiles, MemorySink};
+use row_language::{Named, RowErr, number_of};
 use std::alloc::{AllocError, Global};
 
 /// The room of a sink of which nothing else is said.
 const ROOM: usize = 4_194_304;
 
-/// A row's files and its sink, as its runs find them.
+/// What a row says of its reads, its writes and its sink.
 #[derive(Drop)]
-pub struct Row<'a> {
-    /// The files.
-    pub files: Vec<Named<'a>>,
+pub struct Faults {
     /// The numbers of the reads that fail.
     pub failing_reads: Vec<u64>,
     /// The numbers of the writes that fail.
@@ -71,11 +68,10 @@ fn numbers_of(alloc: Global, text: &str) -> Result<Vec<u64>, RowErr> {
     Ok(numbers)
 }
 
-impl<'a> Row<'a> {
-    /// A row without files, in which nothing fails.
-    pub fn new(alloc: Global) -> Row<'a> {
-        Row {
-            files: Vec::new(alloc),
+impl Faults {
+    /// Nothing fails.
+    pub fn none(alloc: Global) -> Faults {
+        Faults {
             failing_reads: Vec::new(alloc),
             failing_writes: Vec::new(alloc),
             most: ROOM,
@@ -99,13 +95,18 @@ impl<'a> Row<'a> {
         Ok(())
     }
 
-    /// Fresh files and a fresh sink, of which one file may be a front of itself.
-    pub fn desk(&self, alloc: Global, front: Option<Front<'_>>) -> Result<Desk, RowErr> {
+    /// These files afresh and a fresh sink, where one file may be a front of itself.
+    pub fn desk(
+        &self,
+        alloc: Global,
+        files: &[Named<'_>],
+        front: Option<Front<'_>>,
+    ) -> Result<Desk, RowErr> {
         if self.most == 0 {
             return Err(RowErr::Most);
         }
         let mut entries = Vec::new(alloc);
-        for file in &self.files {
+        for file in files {
             entries.push(entry_of(alloc, file, front)?)?;
         }
         let files = MemoryFiles::new(entries, self.failing_reads.as_slice().to_vec(alloc)?);

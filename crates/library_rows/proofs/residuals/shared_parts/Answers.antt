@@ -4,7 +4,7 @@ use Rattle.term_model.specs.Declarations.{declarations}
 use Rattle.term_model.specs.Terms.{Contract, contract}
 use Rattle.term_model.specs.WellFormed.{IsClosed}
 use Rattle.specialise.proofs.CallFacts.{offsets_shared}
-use Rattle.library_rows.proofs.making.shared_parts.Goals as goal
+use Rattle.library_rows.proofs.residuals.shared_parts.Goals as goal
 
 pub returns-clause-offsets : goal.returns-clause-offsets
 returns-clause-offsets c =
