@@ -1,7 +1,6 @@
 //! Calls on contracts as they are written: counts, copies, instances and another party.
 
-ghost use Rattle.std.specs.Prelude.{◌<◌, IfOk, IsTrue};
-ghost use Rattle.term_model.specs.Limits.{most_counted};
+ghost use Rattle.std.specs.Prelude.{◌≡◌, IfOk, IsTrue};
 ghost use Rattle.term_model.specs.DayCounts.{day_count};
 ghost use Rattle.term_model.specs.Declarations.{declarations};
 ghost use Rattle.term_model.specs.Instances.{HasSmallSums, IsSetting, IsSmallSum};
@@ -10,6 +9,7 @@ ghost use Rattle.term_model.specs.Terms.{contract};
 ghost use Rattle.term_model.specs.WellFormed.{IsClosed};
 
 use crate::call_err::{Answer, CallErr};
+use crate::equality::is_same;
 use crate::printing::say_same;
 use exposure::rename;
 use std::alloc::Global;
@@ -27,7 +27,7 @@ pub fn counted(c: &Contr, out: &mut String) -> Answer {
 /// `copy FILE`: whether a copy of it is the second one.
 pub fn copied(alloc: Global, c: &Contr, wanted: &Contr, out: &mut String) -> Answer {
     let copy = c.copy(alloc)?;
-    say_same(copy == *wanted, out)
+    say_same(is_same(&copy, wanted), out)
 }
 
 // Whether a day count is no sum, or a small one.
@@ -96,11 +96,11 @@ pub fn instance(
         return Err(CallErr::Text);
     }
     let made = at_defaults(alloc, decls, c)?;
-    say_same(made == *wanted, out)
+    say_same(is_same(&made, wanted), out)
 }
 
 /// `rename FILE`: whether it is the second one with the second party in the place of the first.
 pub fn renamed(alloc: Global, c: &Contr, wanted: &Contr, out: &mut String) -> Answer {
     let other = rename(alloc, c, 0, 1)?;
-    say_same(other == *wanted, out)
+    say_same(is_same(&other, wanted), out)
 }

@@ -32,6 +32,7 @@
 mod call_err;
 mod calls;
 mod codes;
+mod equality;
 mod evaluating;
 mod files;
 mod forms;

@@ -12,6 +12,7 @@ ghost use Rattle.term_model.specs.WellFormed.{HasOnlyNumbers, IsClosed};
 ghost use Rattle.specialise.specs.Specialised.{IsNear};
 
 use crate::call_err::{Answer, CallErr};
+use crate::equality::{is_same, is_same_expr};
 use crate::printing::{say_missing, say_same};
 use advance_step::{Advanced, advance, carry, step};
 use decimal::NoMemory;
@@ -39,7 +40,7 @@ pub fn simplified(
     requires numbers { HasOnlyNumbers (contract c.now) }
 {
     let simple = simplify(alloc, decls, c)?;
-    say_same(simple == *wanted, out)
+    say_same(is_same(&simple, wanted), out)
 }
 
 /// `specialise_contr FILE TABLE DAY`: whether it is the second one with what is fixed told in it.
@@ -60,7 +61,7 @@ pub fn specialised(
     requires last { day ≤ℤ pos last_start }
 {
     let special = specialise_contr(alloc, decls, c, fixings, day)?;
-    say_same(special == *wanted, out)
+    say_same(is_same(&special, wanted), out)
 }
 
 // The expression that a contract binds or tests.
@@ -110,7 +111,7 @@ pub fn specialised_first(
     requires day { IsNear frame }
 {
     let special = first_on(alloc, decls, c, fixings, frame)?;
-    say_same(special == *first_of(wanted)?, out)
+    say_same(is_same_expr(&special, first_of(wanted)?), out)
 }
 
 // Appends what is due, and whether what is left is as wanted; or what is missing.
@@ -120,7 +121,7 @@ fn say_advanced(answer: Result<Advanced, FlowErr>, wanted: &Contr, out: &mut Str
             for row in &due.rows {
                 write!(out, "| {row:?}\n")?;
             }
-            say_same(rest == *wanted, out)
+            say_same(is_same(&rest, wanted), out)
         }
         Err(error) => say_missing(error, out),
     }
@@ -191,7 +192,7 @@ fn say_shared(
     requires { IsClosed (declarations _decls.now) (shared s.now.value) }
 {
     let c = unshare(alloc, s)?;
-    say_same(c == *wanted, out)
+    say_same(is_same(&c, wanted), out)
 }
 
 /// `carry FILE TABLE DAY`: whether the second one is left of it on the day after a day on which it

@@ -43,8 +43,8 @@ fn scenarios_of(alloc: Global, text: &[u8], decls: &Decls) -> Result<Scenarios, 
     }
 }
 
-/// `fixings CODE TABLE SCENARIO`: what is fixed in a scenario, by its place, of each label of a code
-/// file.
+/// `fixings CODE TABLE SCENARIO`: what is fixed in a scenario, by its place, of each label of a
+/// code file.
 pub fn fixed(alloc: Global, code: &[u8], table: &[u8], place: u32, out: &mut String) -> Answer {
     let file = code_of(alloc, code)?;
     let set = scenarios_of(alloc, table, &file.decls)?;

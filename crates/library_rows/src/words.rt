@@ -1,6 +1,6 @@
 //! The words of a call.
 
-ghost use Rattle.std.specs.Prelude.{◌≡◌, ◌≤ℤ◌, ◌≤◌, ◌^◌, pos, true, unsigned_abs, IfOk};
+ghost use Rattle.std.specs.Prelude.{◌≡◌, ◌≤◌, ◌≤ℤ◌, ◌^◌, IfOk, pos, true, unsigned_abs};
 ghost use Rattle.term_model.specs.Limits.{is_a_version, last_start};
 
 use crate::call_err::CallErr;
