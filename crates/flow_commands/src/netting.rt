@@ -26,7 +26,7 @@ use exposure::{Positions, position_line, positions, settle};
 use flow_eval::FlowTable;
 use std::alloc::Global;
 use term_model::{Decls, defaults};
-use used_contracts::{Choice, all_contracts, start_reading};
+use used_contracts::{Choice, start_reading};
 
 // Appends the lines of positions.
 fn append_positions(
@@ -96,7 +96,12 @@ fn net_of_text(
 {
     let (decls, mut reader) = start_reading(alloc, inputs)?;
     let setting = defaults(alloc, &decls)?;
-    let choice = all_contracts(&decls, &setting, None);
+    let choice = Choice {
+        decls: &decls,
+        setting: &setting,
+        named: None,
+        only: false,
+    };
     let table = inputs.table_if_named(asked.fixings);
     let net = net_of_all(alloc, choice, &mut reader, asked, table)?;
     Ok((decls, net))

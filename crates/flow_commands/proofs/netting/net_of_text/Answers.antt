@@ -1,4 +1,4 @@
-use Rattle.std.proofs.Common.{ℕ, List, Bor, ap, subst, sym}
+use Rattle.std.proofs.Common.{ℕ, List, subst}
 use Rattle.std.specs.Prelude.{Option, Err}
 use Rattle.term_model.specs.declared.decls.Decls.{Decls}
 use Rattle.term_model.specs.Declarations.{Declarations, declarations}
@@ -10,7 +10,6 @@ use Rattle.command_courses.specs.Stopping.{AnswersBy}
 use Rattle.flow_commands.specs.FlowsCourse.{flows_of_text}
 use Rattle.flow_commands.specs.NettingCourse.{flows_of_all}
 use Rattle.flow_commands.specs.NettingParts.{KnowsNet}
-use Rattle.used_contracts.specs.ReadingParts.{IsBegun}
 use Rattle.command_courses.proofs.StopFacts.{handed_on}
 use Rattle.flow_commands.proofs.netting.net_of_text.Goals as goal
 
@@ -19,9 +18,7 @@ returns-in_err-net c =
     let inputs = bytes_of c.args.inputs.files.now in
     let text = file_at inputs 0 in
     let asked = netting_by c.args.asked.now in
-    let choice = c.all_contracts-choice.result in
-    let same = ap (λ (b : Bor Decls). declarations b.now) c.all_contracts-choice.ensures.decls in
-    let begun = subst (λ (d : Declarations). IsBegun text d c.in_ok-decls.reader) (sym same) c.in_ok-decls.ensures in
+    let begun = c.in_ok-decls.ensures in
     let Net : Option (List ℕ) → FlowTable → Type 0 = λ table net. KnowsNet asked text table (declarations choice.decls.now) net in
     let Stopped = Stops (flows_of_text (flows_of_all asked) text (table_if_named asked.fixings inputs)) in
     handed_on (Net (table_if_named asked.fixings inputs))
@@ -35,8 +32,6 @@ returns c =
     let inputs = bytes_of c.args.inputs.files.now in
     let text = file_at inputs 0 in
     let asked = netting_by c.args.asked.now in
-    let choice = c.all_contracts-choice.result in
-    let same = ap (λ (b : Bor Decls). declarations b.now) c.all_contracts-choice.ensures.decls in
-    let begun = subst (λ (d : Declarations). IsBegun text d c.in_ok-decls.reader) (sym same) c.in_ok-decls.ensures in
+    let begun = c.in_ok-decls.ensures in
     let known = subst (λ (table : Option (List ℕ)). KnowsNet asked text table (declarations choice.decls.now) c.in_ok-net.net) c.table_if_named-table.ensures.is (c.in_ok-net.ensures text begun) in
     subst (λ (d : Declarations). KnowsNet asked text (table_if_named asked.fixings inputs) d c.in_ok-net.net) same known
