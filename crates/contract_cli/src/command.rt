@@ -9,9 +9,7 @@ ghost use Rattle.contract_cli.specs.Seen.{seen, sink_left};
 
 use crate::reading::read_files;
 use command_answers::answer_request;
-use command_courses::{
-    Answer, Answer, Inputs, Status, Status, Stop, Stop, fault_answer, fault_answer,
-};
+use command_courses::{Answer, Inputs, Status, Stop, fault_answer};
 use command_words::{WordsErr, files_of, request_of};
 use decimal::NoMemory;
 use edge_io::{Files, Sink, write_whole};
