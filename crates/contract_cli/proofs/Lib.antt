@@ -8,6 +8,8 @@ pub mod PayoffTexts
 pub mod SampleLaws
 pub mod SettingFacts
 pub mod HeadlineFacts
+pub mod DueOfLifecycle
+pub mod DueOfTexts
 pub mod MigrateFacts
 pub mod TwoRunFacts
 pub mod ExpandTexts

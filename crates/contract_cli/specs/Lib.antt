@@ -7,6 +7,8 @@ pub mod PayoffLaws
 pub mod NovateLaws
 pub mod SampleLaws
 pub mod Headline
+pub mod DueOfLifecycle
+pub mod DueOfTexts
 pub mod TwoRuns
 pub mod ExpandLaws
 pub mod NettingLaws

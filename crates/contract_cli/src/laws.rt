@@ -9,6 +9,8 @@ ghost use Rattle.flow_commands.specs.DueOfNetting.{DueOfPositions, DueOfSettleme
 ghost use Rattle.valuation_commands.specs.DueOfScenarios.{DueOfScenarios};
 ghost use Rattle.valuation_commands.specs.DueOfValue.{DueOfValue};
 ghost use Rattle.contract_cli.specs.AdvanceLaws.{AdvanceTextsAreTexts, AdvancesCompose};
+ghost use Rattle.contract_cli.specs.DueOfLifecycle.{DueOfAdvance, DueOfNovate};
+ghost use Rattle.contract_cli.specs.DueOfTexts.{DueOfCheck, DueOfExpand, DueOfMigrate, DueOfPayoff};
 ghost use Rattle.contract_cli.specs.ExpandLaws.{ExpandedPlansAreListed, ExpandedTextsAreAccepted, ExpandedTextsAreTexts};
 ghost use Rattle.contract_cli.specs.NettingLaws.{PrintedPositionsBalance, PrintedSettlementsSettle, SettlementsSettlePositions};
 ghost use Rattle.contract_cli.specs.NovateLaws.{NovateTextsAreTexts};
@@ -61,15 +63,22 @@ pub fn too_long_is_exact()
     ensures comes { TooLongComes }
 {}
 
-/// What the law of statuses says of `flows`, of `value` and of `scenarios`, status by status: where
-/// the cause of a status stands it is due, and what stops the command has its cause. `positions`
-/// and `settle` have the causes that `flows` of all contracts has.
+/// What the law of statuses says of each command, status by status: where the cause of a status
+/// stands it is due, and what stops the command has its cause. `positions` and `settle` have the
+/// causes that `flows` of all contracts has; and `novate`, behind its names, those of `advance`.
+/// `sample` is stopped by nothing.
 pub fn causes_are_due()
+    ensures check { DueOfCheck }
     ensures flows { DueOfFlows }
     ensures value { DueOfValue }
     ensures positions { DueOfPositions }
     ensures settlements { DueOfSettlements }
     ensures scenarios { DueOfScenarios }
+    ensures advance { DueOfAdvance }
+    ensures novate { DueOfNovate }
+    ensures payoff { DueOfPayoff }
+    ensures migrate { DueOfMigrate }
+    ensures expand { DueOfExpand }
 {}
 
 /// The bytes of the files of any command but `advance` and `novate` have one answer, a status and a
