@@ -3,29 +3,23 @@ use Rattle.std.proofs.Common.{◌≡◌, ◌∙◌, inl, inr, ◌-ℤ◌, ◌+�
 use Rattle.std.specs.Prelude.{All, Option, None}
 use Rattle.std.specs.List.{filter}
 use Rattle.std.proofs.Math.Path.{fun_ext}
-use Rattle.std.proofs.lemmas.Bool.{cases_Bool}
-use Rattle.std.proofs.lemmas.List.Elements.{All-cons, All-head, All-nil, All-tail, All-weaker}
+use Rattle.std.proofs.lemmas.List.Elements.{All-cons, All-head, All-nil, All-tail}
 use Rattle.decimal.specs.Rounding.{raised}
 use Rattle.term_model.specs.declared.name.Name.{Name}
 use Rattle.term_model.specs.Books.{Book}
 use Rattle.term_model.specs.Declarations.{Declarations}
 use Rattle.term_model.specs.Environments.{Environment}
 use Rattle.term_model.specs.Flows.{Flow}
-use Rattle.term_model.specs.Instances.{declared_numbers, instance}
+use Rattle.term_model.specs.Instances.{declared_numbers}
 use Rattle.term_model.specs.Terms.{Contract}
 use Rattle.contract_grammar.specs.Texts.{Text}
 use Rattle.contract_parse.proofs.OneText.{one_text}
-use Rattle.contract_print.proofs.LinesSpelled.{book_spelled}
 use Rattle.flow_eval.specs.Tables.{IsTable, paid_by}
 use Rattle.schedule_forms.specs.DeclaredPlans.{IsPlanOfTexts}
 use Rattle.schedule_forms.specs.Expansions.{expansion}
 use Rattle.schedule_forms.specs.LawsSchedules.{PaysAsPlanned}
-use Rattle.schedule_forms.specs.PlanBooks.{PlanBook, expanded_book}
-use Rattle.schedule_forms.specs.PlanFlows.{plan_flow, scale_of_plan}
-use Rattle.schedule_forms.specs.PlanSpelling.{PlanText}
+use Rattle.schedule_forms.specs.PlanBooks.{expanded_book}
 use Rattle.schedule_forms.specs.declared.plans.Plan.{Plan}
-use Rattle.schedule_forms.proofs.ExpandedTexts.{expanded_spellable}
-use Rattle.schedule_forms.proofs.PlanFacts.{declared_pay}
 use Rattle.schedule_forms.proofs.TextPlans.{texts_expandable}
 use Rattle.command_words.specs.Commands.{Check, Expand, Flows, FlowsAsked, file_if_named, files_of}
 use Rattle.used_contracts.specs.AllAccepted.{AreAllAccepted}
@@ -38,13 +32,15 @@ use Rattle.used_contracts.specs.UsedContracts.{at_defaults, is_asked, used}
 use Rattle.command_courses.specs.declared.status.Status.TheVariants as status
 use Rattle.text_commands.proofs.ExpandFacts.{expansion_numbers}
 use Rattle.used_contracts.proofs.UsedFacts.{own_instance, used_of}
-use Rattle.contract_cli.specs.ExpandLaws.{AreLinesOfPlans, ArePaidAsPlanned, ArePlanLinesAsked, ExpandedPlansAreListed, ExpandedTextsAreAccepted, ExpandedTextsAreTexts}
-use Rattle.contract_cli.specs.ExpandLaws.{Expands, HasExpanded, ListsPlans, paid_as_planned, planned_together, plans_asked}
+use Rattle.contract_cli.specs.ExpandLaws.{AreLinesOfPlans, ArePlanLinesAsked, ExpandedPlansAreListed, ExpandedTextsAreAccepted, ExpandedTextsAreTexts}
+use Rattle.contract_cli.specs.ExpandLaws.{ListsPlans, paid_as_planned, planned_together, plans_asked}
+use Rattle.contract_cli.specs.Headline.{HasExpanded}
 use Rattle.contract_cli.specs.Reading.{WereRead}
 use Rattle.contract_cli.specs.Seen.{Edge, WritesAll}
 use Rattle.contract_cli.specs.TwoRuns.{Passes}
 use Rattle.contract_cli.proofs.LawFacts.{done_has_told, statuses_over_files_are_exact}
 use Rattle.contract_cli.proofs.RunSound.{first_read, first_told}
+use Rattle.contract_cli.proofs.TextRuns.{has_expanded}
 use Rattle.contract_cli.proofs.TwoRunFacts.{held_same, was_passed, was_printed}
 
 -- ---- the portfolio that is printed
@@ -60,29 +56,8 @@ expansions_used d (entry ∷ plans) all =
     (own_instance (declared_numbers d) (expansion entry.1) (expansion_numbers d entry.1 (All-head (Fits d) entry plans all)))
     (expansions_used d plans (All-tail (Fits d) entry plans all))
 
-all_paid : (b : PlanBook) → All (Fits b.declarations) b.plans → ArePaidAsPlanned b
-all_paid b fits =
-    All-weaker (Fits b.declarations) (λ entry. PaysAsPlanned b.declarations (expansion entry.1) entry.1) (λ entry fits. declared_pay b.declarations entry.1 fits.within fits.over) b.plans fits
-
 pub expanded_texts_are_texts : ExpandedTextsAreTexts
-expanded_texts_are_texts words edge file one =
-    let h = done_has_told words edge (Expand file) one.named one.done in
-    let b = h.told.0 in
-    let spelled = h.told.1 in
-    let accepted = h.told.2.1 in
-    let is_canon = h.told.2.2.1 in
-    record {
-      plans = b;
-      inputs = h.inputs;
-      text = h.text;
-      read = h.read;
-      spelled = spelled;
-      written = h.line;
-      is_canon = is_canon;
-      is_text = book_spelled h.text (expanded_book b) (expanded_spellable (file_at h.inputs 0) b spelled) is_canon;
-      accepted = accepted;
-      paid = all_paid b (texts_expandable (file_at h.inputs 0) b spelled);
-    }
+expanded_texts_are_texts words edge file one = has_expanded words edge file (done_has_told words edge (Expand file) one.named one.done)
 
 -- ---- `check` of it
 

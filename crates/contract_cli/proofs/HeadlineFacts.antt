@@ -15,10 +15,11 @@ use Rattle.payoff_terms.specs.CodeBooks.{CodeBook}
 use Rattle.payoff_lang.specs.CodeFiles.{CodeText}
 use Rattle.payoff_terms.specs.Meaning.{CodeMeans, Counting, MayBeAsked, Remaining}
 use Rattle.payoff_terms.proofs.CodeAlikeFacts.{code_stays}
-use Rattle.command_words.specs.Commands.{Advance, AdvanceAsked, Check, Novate, Payoff, PayoffAsked, Request, Scenarios, ScenariosAsked, Value, ValueAsked}
+use Rattle.command_words.specs.Commands.{Advance, AdvanceAsked, Check, Expand, Flows, FlowsAsked, Migrate, Novate, Payoff, PayoffAsked, Request, Sample, Scenarios, ScenariosAsked, Value, ValueAsked, files_of}
 use Rattle.scenario_set.specs.Totals.{AreTotals}
 use Rattle.scenario_set.specs.declared.outcomes.Totals.{Totals}
 use Rattle.scenario_set.proofs.LawFacts.{scenarios_are_worth}
+use Rattle.flow_commands.specs.FlowsCourse.{flows_course}
 use Rattle.lifecycle_commands.specs.AdvanceCourse.{advance_course}
 use Rattle.lifecycle_commands.specs.AdvancePromise.{IsAdvanceText}
 use Rattle.text_commands.specs.CheckCourse.{check_course}
@@ -35,15 +36,18 @@ use Rattle.command_courses.specs.declared.status.Status.{Status}
 use Rattle.command_courses.specs.declared.status.Status.TheVariants as status
 use Rattle.command_courses.proofs.CourseFacts.{OfCommand}
 use Rattle.valuation_commands.proofs.ValueParts.{index_within}
-use Rattle.contract_cli.specs.Headline.{AreWorthIn, HasAdvanced, HasChecked, HasCompiled, HasTotalled, HasValued, Headline, IsAcceptedAtNumbers, IsPresentValue, Judged}
+use Rattle.contract_cli.specs.Headline.{AreWorthIn, HasAdvanced, HasChecked, HasCompiled, HasListed, HasSampled, HasTotalled, HasValued, Headline, IsAcceptedAtNumbers, IsPresentValue, Judged}
+use Rattle.contract_cli.specs.Reading.{WereRead}
 use Rattle.contract_cli.specs.RunLaws.{HasTold}
 use Rattle.contract_cli.specs.RunPromise.{Meets, Names}
 use Rattle.contract_cli.specs.Seen.{Edge, WritesAll}
 use Rattle.contract_cli.proofs.AdvanceTexts.{advance_texts_are_texts}
 use Rattle.contract_cli.proofs.LawFacts.{answered_by, done_has_told}
+use Rattle.contract_cli.proofs.NettingTexts.{printed_positions_balance, printed_settlements_settle}
 use Rattle.contract_cli.proofs.NovateTexts.{has_novated}
 use Rattle.contract_cli.proofs.PayoffTexts.{payoff_texts_mean}
 use Rattle.contract_cli.proofs.SettingFacts.{scenario_setting_small, setting_small}
+use Rattle.contract_cli.proofs.TextRuns.{has_expanded, has_migrated}
 
 -- ---- `check`, which a bad text alone stops
 
@@ -67,6 +71,23 @@ has_checked words edge s file named judged m =
     record { book = h.0; inputs = a.inputs; text = a.text; ran = record { read = a.read; spelled = h.1; written = a.line }; verdicts = h.2 }
 
 -- ---- what the other commands tell
+
+flows_told : (edge : Edge) (asked : FlowsAsked) (inputs : List (List ℕ)) (text : List ℕ) → WereRead edge.files.contents (files_of (Flows asked)) inputs
+    → WritesAll edge.sink text → Tells (flows_course asked inputs) status.Done text → HasListed edge asked
+flows_told edge asked inputs text read written (b, spelled, (_, known, (last, is_last, (_, accepted, (fixings, are_fixings, (_, fixed, (_, lines))))))) = record {
+  book = b;
+  inputs = inputs;
+  text = text;
+  ran = record { read = read; spelled = spelled; written = written };
+  known = known;
+  last = last;
+  is_last = is_last;
+  accepted = accepted;
+  fixings = fixings;
+  are_fixings = are_fixings;
+  fixed = fixed;
+  lines = lines;
+}
 
 advance_told : (asked : AdvanceAsked) (inputs : List (List ℕ)) (s : Status) (text : List ℕ) → Tells (advance_course asked inputs) s text
     → (b : Book) × Text (file_at inputs 0) b × IsAdvanceText b asked (Some (file_at inputs 1)) text
@@ -222,15 +243,30 @@ module _ (words : List (List ℕ)) (edge : Edge) where
         written = subst (λ (t : List ℕ). WritesAll edge.sink t) a.2.told.lines h.line;
       }
 
+  has_listed : (asked : FlowsAsked) → HasTold words edge (Flows asked) status.Done → HasListed edge asked
+  has_listed asked h = flows_told edge asked h.inputs h.text h.read h.line h.told
+
+  has_sampled : (count : ℕ) → HasTold words edge (Sample count) status.Done → HasSampled edge count
+  has_sampled count h = record { text = h.text; summary = h.told.1; written = h.line }
+
+  as_done : (s : Status) → s ≡ status.Done → Meets words edge s → Meets words edge status.Done
+  as_done s is m = subst (λ (x : Status). Meets words edge x) is m
+
   done : (request : Request) → Names words request → (s : Status) → s ≡ status.Done → Meets words edge s → HasTold words edge request status.Done
-  done request named s is m = done_has_told words edge request named (subst (λ (x : Status). Meets words edge x) is m)
+  done request named s is m = done_has_told words edge request named (as_done s is m)
 
   pub headline : (s : Status) → Meets words edge s → Headline words edge s
   headline s m = record {
     checks = λ file named judged. has_checked words edge s file named judged m;
+    lists = λ asked named is. has_listed asked (done (Flows asked) named s is m);
+    balances = λ asked named is. printed_positions_balance words edge asked named (as_done s is m);
+    settles = λ asked named is. printed_settlements_settle words edge asked named (as_done s is m);
     advances = λ asked named is. has_advanced asked (done (Advance asked) named s is m);
     novates = λ asked named is. has_novated words edge asked (done (Novate asked) named s is m);
     compiles = λ asked named is. has_compiled asked (done (Payoff asked) named s is m);
     values = λ asked named is. has_valued asked named (done (Value asked) named s is m);
     totals = λ asked named is. has_totalled asked named (done (Scenarios asked) named s is m);
+    migrates = λ file named is. has_migrated words edge file (done (Migrate file) named s is m);
+    expands = λ file named is. has_expanded words edge file (done (Expand file) named s is m);
+    samples = λ count named is. has_sampled count (done (Sample count) named s is m);
   }

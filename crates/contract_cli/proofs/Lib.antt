@@ -7,12 +7,13 @@ pub mod AdvanceTexts
 pub mod PayoffTexts
 pub mod SampleLaws
 pub mod SettingFacts
-pub mod HeadlineFacts
 pub mod DueOfLifecycle
 pub mod DueOfTexts
 pub mod MigrateFacts
+pub mod TextRuns
+pub mod NettingTexts
+pub mod HeadlineFacts
 pub mod TwoRunFacts
 pub mod ExpandTexts
-pub mod NettingTexts
 pub mod NovateTexts
 pub mod NovateRuns

@@ -1,6 +1,5 @@
 -- What `positions` prints are positions that add up to 0, and what `settle` prints settles them.
-use Rattle.std.proofs.Common.{◌≡◌, ◌∙◌, ◌≤◌, ◌-◌, ◌+◌, ◌⊎◌, inl, inr, ℕ, ℤ, pos, Bool, true, false, cond, List, [], ◌∷◌, length, arith, refl, subst, sym}
-use Rattle.std.specs.Prelude.{All, Option}
+use Rattle.std.proofs.Common.{◌≡◌, ◌∙◌, ◌≤◌, ◌-◌, ◌+◌, ◌⊎◌, inl, inr, ℕ, ℤ, Bool, true, false, cond, List, [], ◌∷◌, length, arith, refl, subst, sym}
 use Rattle.std.specs.List.{Contains, count_by}
 use Rattle.std.proofs.lemmas.Bool.{eq-eqb}
 use Rattle.std.proofs.lemmas.Bool.Decides.{Decides-int_eq}
@@ -24,19 +23,19 @@ use Rattle.flow_commands.specs.NettingCourse.{netting_on}
 use Rattle.flow_commands.specs.NettingPromise.{TellsPositions, TellsSettlement}
 use Rattle.command_courses.specs.declared.status.Status.TheVariants as status
 use Rattle.flow_commands.proofs.NettingAreOne.{LeaveSame, same_positions, same_tables}
-use Rattle.contract_cli.specs.NettingLaws.{AreFewer, AreTablesOfAll, BringToPositions, HasPositions, HasSettled}
+use Rattle.contract_cli.specs.NettingLaws.{AreFewer, AreTablesOfAll, BringToPositions}
 use Rattle.contract_cli.specs.NettingLaws.{PrintedPositionsBalance, PrintedSettlementsSettle, SettlementsSettlePositions, stands_on}
 use Rattle.contract_cli.proofs.LawFacts.{done_has_told}
 use Rattle.contract_cli.proofs.RunSound.{whole_read}
 
--- ---- one run
+-- ---- a run
 
 -- the tables of which a text tells
 tables_told : (TellsOf : Declarations → List FlowTable → List ℕ → Type 0) (asked : NettingAsked) (inputs : List (List ℕ)) (b : Book) (text : List ℕ)
     → Tells (netting_on TellsOf asked b (table_if_named asked.fixings inputs)) status.Done text
     → (tables : List FlowTable) × AreTablesOfAll asked inputs b tables × TellsOf b.declarations tables text
 tables_told TellsOf asked inputs b text (a, known, (last, is_last, (c, accepted, (fixings, are, (e, fixed, (done, told)))))) =
-    (told.tables, record { last = last; is_last = is_last; fixings = fixings; are_fixings = are; are_tables = told.are_tables }, told.told)
+    (told.tables, record { last = last; is_last = is_last; accepted = accepted; fixings = fixings; are_fixings = are; are_tables = told.are_tables }, told.told)
 
 pub printed_positions_balance : PrintedPositionsBalance
 printed_positions_balance words edge asked named done =
@@ -55,24 +54,6 @@ printed_positions_balance words edge asked named done =
       lines = k.2.lines;
       positions = k.2.positions;
       balanced = k.2.positions.balanced;
-    }
-
-pub printed_settlements_settle : PrintedSettlementsSettle
-printed_settlements_settle words edge asked named done =
-    let h = done_has_told words edge (Settle asked) named done in
-    let k = tables_told TellsSettlement asked h.inputs h.told.0 h.text h.told.2 in
-    record {
-      of = record {
-        book = h.told.0;
-        inputs = h.inputs;
-        text = h.text;
-        ran = record { read = h.read; spelled = h.told.1; written = h.line };
-        tables = k.0;
-        known = k.1;
-      };
-      rows = k.2.rows;
-      lines = k.2.lines;
-      settles = k.2.settles;
     }
 
 -- ---- payments and positions of the same tables
@@ -126,6 +107,29 @@ fewer_payments : (tables : List FlowTable) (rows : List PositionRow) (payments :
 fewer_payments tables rows payments are settles n a =
     subst (λ (m : ℕ). count_by (is_on n a) payments ≤ m - 1) (as_many n a rows) (settles.few n a (parties n a rows) (holds_all tables rows n a are))
 
+-- ---- a run of `settle`
+
+pub printed_settlements_settle : PrintedSettlementsSettle
+printed_settlements_settle words edge asked named done =
+    let h = done_has_told words edge (Settle asked) named done in
+    let k = tables_told TellsSettlement asked h.inputs h.told.0 h.text h.told.2 in
+    record {
+      of = record {
+        book = h.told.0;
+        inputs = h.inputs;
+        text = h.text;
+        ran = record { read = h.read; spelled = h.told.1; written = h.line };
+        tables = k.0;
+        known = k.1;
+      };
+      rows = k.2.rows;
+      lines = k.2.lines;
+      settles = k.2.settles;
+      in_turn = k.2.in_turn;
+      bring = λ positions are. bring_to_positions k.0 positions are k.2.rows k.2.settles;
+      fewer = λ positions are. fewer_payments k.0 positions k.2.rows are k.2.settles;
+    }
+
 -- ---- two runs
 
 tables_same : (asked : NettingAsked) (inputs : List (List ℕ)) (b : Book) (tables more : List FlowTable)
@@ -148,6 +152,6 @@ settlements_settle_positions words more first second asked inputs one done two e
     record {
       netted = h;
       settled = k;
-      bring = bring_to_positions k.of.tables h.rows are k.rows k.settles;
-      fewer = fewer_payments k.of.tables h.rows k.rows are k.settles;
+      bring = k.bring h.rows are;
+      fewer = k.fewer h.rows are;
     }

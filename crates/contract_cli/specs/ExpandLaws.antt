@@ -2,32 +2,26 @@
 -- for, in the order of the plans, of which each is accepted and pays what its plan says; so `check` accepts it; and what
 -- `flows` prints of that text are the lines of what the plans themselves pay.
 use Rattle.std.specs.Prelude.{◌≡◌, ◌-ℤ◌, ◌-◌, ℕ, ℤ, pos, Bool, true, false, List, [], ◌∷◌, ◌++◌, Option, codes, map}
-use Rattle.std.specs.List.{All, filter}
+use Rattle.std.specs.List.{filter}
 use Rattle.decimal.specs.Rounding.{raised}
 use Rattle.term_model.specs.declared.name.Name.{Name}
 use Rattle.term_model.specs.Declarations.{Declarations}
 use Rattle.term_model.specs.Environments.{Environment, Extends}
 use Rattle.term_model.specs.Flows.{Flow}
-use Rattle.contract_grammar.specs.Texts.{Text}
-use Rattle.contract_print.specs.Canon.{IsCanon}
 use Rattle.flow_eval.specs.Tables.{IsTable}
 use Rattle.flow_eval.specs.declared.flow_table.FlowRow.{FlowRow}
 use Rattle.report.specs.SumTables.{together}
-use Rattle.schedule_forms.specs.Expansions.{expansion}
-use Rattle.schedule_forms.specs.LawsSchedules.{PaysAsPlanned}
-use Rattle.schedule_forms.specs.PlanBooks.{PlanBook, expanded_book}
+use Rattle.schedule_forms.specs.PlanBooks.{PlanBook}
 use Rattle.schedule_forms.specs.PlanFlows.{plan_flow, scale_of_plan}
-use Rattle.schedule_forms.specs.PlanSpelling.{PlanText}
 use Rattle.schedule_forms.specs.declared.plans.Plan.{Plan}
 use Rattle.command_words.specs.Commands.{Check, Expand, Flows, FlowsAsked, files_of}
-use Rattle.used_contracts.specs.AllAccepted.{AreAllAccepted}
 use Rattle.flow_commands.specs.FlowsCourse.{table_named}
 use Rattle.command_courses.specs.FixingTables.{AreFixings}
 use Rattle.flow_commands.specs.FlowsPromise.{AreLines, IsLastDay}
-use Rattle.command_courses.specs.Inputs.{file_at}
 use Rattle.used_contracts.specs.UsedContracts.{is_asked}
 use Rattle.command_courses.specs.declared.status.Status.{Status}
 use Rattle.command_courses.specs.declared.status.Status.TheVariants as status
+use Rattle.contract_cli.specs.Headline.{HasExpanded}
 use Rattle.contract_cli.specs.Reading.{WereRead}
 use Rattle.contract_cli.specs.RunLaws.{IsOrNoMemory, IsReadWhole}
 use Rattle.contract_cli.specs.RunPromise.{Meets, Names}
@@ -40,24 +34,6 @@ use Rattle.contract_cli.specs.TwoRuns.{Passes}
 pub record Expands (words : List (List ℕ)) (edge : Edge) (file : List ℕ) : Type 0 where
   pub named : Names words (Expand file)
   pub done : Meets words edge status.Done
-
--- the contract that a plan is written for pays what the plan says
-abbrev pub ArePaidAsPlanned : PlanBook → Type 0
-ArePaidAsPlanned plans = All (λ entry. PaysAsPlanned plans.declarations (expansion entry.1) entry.1) plans.plans
-
--- what `expand` has read is a schedule file, and what it has written is the canonical text of the portfolio of its expansions,
--- and a text of it; each contract is accepted, and pays what its plan says
-pub record HasExpanded (edge : Edge) (file : List ℕ) : Type 0 where
-  pub plans : PlanBook
-  pub inputs : List (List ℕ)
-  pub text : List ℕ
-  pub read : WereRead edge.files.contents (files_of (Expand file)) inputs
-  pub spelled : PlanText (file_at inputs 0) plans
-  pub written : WritesAll edge.sink text
-  pub is_canon : IsCanon text (expanded_book plans)
-  pub is_text : Text text (expanded_book plans)
-  pub accepted : AreAllAccepted plans.declarations (expanded_book plans).contracts
-  pub paid : ArePaidAsPlanned plans
 
 abbrev pub ExpandedTextsAreTexts : Type 0
 ExpandedTextsAreTexts = (words : List (List ℕ)) (edge : Edge) (file : List ℕ) → Expands words edge file → HasExpanded edge file

@@ -6,10 +6,11 @@ pub mod AdvanceLaws
 pub mod PayoffLaws
 pub mod NovateLaws
 pub mod SampleLaws
+pub mod Ran
+pub mod NettingLaws
 pub mod Headline
 pub mod DueOfLifecycle
 pub mod DueOfTexts
 pub mod TwoRuns
 pub mod ExpandLaws
-pub mod NettingLaws
 pub mod NovateRuns

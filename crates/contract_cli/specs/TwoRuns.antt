@@ -2,19 +2,18 @@
 -- value of the contract (Annenkov and Elsman, PPDP 2018); and a portfolio that `advance` prints is left by a later `advance` with
 -- contracts that carry the first ones (Bahr, Berthold and Elsman, ICFP 2015). What `migrate` prints is the same portfolio in
 -- version 2.
-use Rattle.std.specs.Prelude.{◌≡◌, ◌++◌, ℕ, ℤ, Bool, false, List, Option, Some}
+use Rattle.std.specs.Prelude.{◌≡◌, ◌++◌, ℕ, false, List, Some}
 use Rattle.term_model.specs.Books.{Book}
-use Rattle.term_model.specs.Environments.{Environment, Extends}
+use Rattle.term_model.specs.Environments.{Extends}
 use Rattle.contract_grammar.specs.Texts.{Text}
 use Rattle.contract_print.specs.Canon.{IsCanon}
 use Rattle.contract_print.specs.Migrated.{migrated}
 use Rattle.contract_print.specs.Spellable.{IsSpellableBook}
-use Rattle.text_commands.specs.CheckPromise.{IsCheckText}
-use Rattle.flow_commands.specs.FlowsPromise.{AreLinesAsked}
-use Rattle.used_contracts.specs.UsedContracts.{used}
-use Rattle.command_words.specs.Commands.{Advance, AdvanceAsked, Check, Migrate, Payoff, PayoffAsked, Value, ValueAsked}
+use Rattle.valuation_commands.specs.ScenariosPromise.{inquiry_in}
+use Rattle.command_words.specs.Commands.{Advance, AdvanceAsked, Check, Migrate, Payoff, PayoffAsked, Scenarios, ScenariosAsked, Value, ValueAsked}
 use Rattle.contract_cli.specs.AdvanceLaws.{IsCarriedBook}
-use Rattle.contract_cli.specs.Headline.{HasAdvanced, HasCompiled, HasValued, IsAcceptedAtNumbers, IsPresentValue, Ran}
+use Rattle.contract_cli.specs.Headline.{AreWorthIn, HasAdvanced, HasCompiled, HasMigrated, HasTotalled, HasValued, IsAcceptedAtNumbers, IsPresentValue, SaysTheSame}
+use Rattle.contract_cli.specs.PayoffLaws.{counted}
 use Rattle.contract_cli.specs.RunLaws.{IsOrNoMemory, IsReadWhole}
 use Rattle.contract_cli.specs.RunPromise.{Meets, Names}
 use Rattle.contract_cli.specs.Seen.{Edge, SinkLeft}
@@ -59,8 +58,8 @@ PrintedCodeIsValued =
     → Compiles words first compiled → compiled.plain ≡ false → Values more second asked → Passes first second asked.files.code
     → ValuesContract first compiled second asked
 
--- what `payoff` has written is for `value` a text of code, which is not refused at numbers at which the contract is accepted
-pub record IsTakenByValue (first : Edge) (compiled : PayoffAsked) (asked : ValueAsked) (s : Status) : Type 0 where
+-- what `payoff` has written is for the words of `value` a text of code, which is not refused at numbers at which the contract is accepted
+pub record IsTaken (first : Edge) (compiled : PayoffAsked) (asked : ValueAsked) (s : Status) : Type 0 where
   pub compiling : HasCompiled first compiled
   pub is_code : s ≡ status.BadText → ⊥
   pub not_refused : IsAcceptedAtNumbers asked compiling.book.declarations compiling.code.contr → s ≡ status.Refused → ⊥
@@ -69,7 +68,38 @@ abbrev pub PrintedCodeIsTaken : Type 0
 PrintedCodeIsTaken =
     (words more : List (List ℕ)) (first second : Edge) (s : Status) (compiled : PayoffAsked) (asked : ValueAsked) (inputs : List (List ℕ))
     → Compiles words first compiled → Meets more second s → IsReadWhole more second (Value asked) inputs
-    → Passes first second asked.files.code → IsTakenByValue first compiled asked s
+    → Passes first second asked.files.code → IsTaken first compiled asked s
+
+-- ---- `payoff`, and then `scenarios`
+
+-- `scenarios` has printed values and their total
+pub record Totals (words : List (List ℕ)) (edge : Edge) (asked : ScenariosAsked) : Type 0 where
+  pub named : Names words (Scenarios asked)
+  pub done : Meets words edge status.Done
+
+-- the code that `scenarios` has read is that which `payoff` has written, and each value that `scenarios` has written is what the named
+-- contract of the portfolio is worth in its scenario, under the portfolio's own declarations: what is left to pay of it, or all of
+-- it where the code is plain
+pub record TotalsContract (first : Edge) (compiled : PayoffAsked) (second : Edge) (asked : ScenariosAsked) : Type 0 where
+  pub compiling : HasCompiled first compiled
+  pub totalling : HasTotalled second asked
+  pub same_code : totalling.book ≡ compiling.code.file
+  pub worth :
+      AreWorthIn compiling.book.declarations asked.value (inquiry_in totalling.can.asks).asked totalling.can.asks.set
+      totalling.totals.values.items compiling.code.contr (counted compiled.plain)
+
+abbrev pub PrintedCodeIsTotalled : Type 0
+PrintedCodeIsTotalled =
+    (words more : List (List ℕ)) (first second : Edge) (compiled : PayoffAsked) (asked : ScenariosAsked)
+    → Compiles words first compiled → Totals more second asked → Passes first second asked.value.files.code
+    → TotalsContract first compiled second asked
+
+-- what `payoff` has written is for `scenarios` a text of code, which is not refused at numbers at which the contract is accepted
+abbrev pub PrintedCodeIsTakenByScenarios : Type 0
+PrintedCodeIsTakenByScenarios =
+    (words more : List (List ℕ)) (first second : Edge) (s : Status) (compiled : PayoffAsked) (asked : ScenariosAsked) (inputs : List (List ℕ))
+    → Compiles words first compiled → Meets more second s → IsReadWhole more second (Scenarios asked) inputs
+    → Passes first second asked.value.files.code → IsTaken first compiled asked.value s
 
 -- ---- `advance`, and then `advance`
 
@@ -106,14 +136,6 @@ pub record Migrates (words : List (List ℕ)) (edge : Edge) (file : List ℕ) : 
   pub named : Names words (Migrate file)
   pub done : Meets words edge status.Done
 
--- what `migrate` has read, and the portfolio of it
-pub record HasMigrated (edge : Edge) (file : List ℕ) : Type 0 where
-  pub book : Book
-  pub inputs : List (List ℕ)
-  pub text : List ℕ
-  pub ran : Ran edge (Migrate file) book inputs text
-  pub is_canon : IsCanon text (migrated book)
-
 -- what is printed is a text of the same portfolio in version 2
 pub record IsTextOfMigrated (first : Edge) (file : List ℕ) (printed : List ℕ) : Type 0 where
   pub migrating : HasMigrated first file
@@ -125,13 +147,6 @@ MigratedTextsAreTexts =
     → Migrates words first file → (passes : Passes first second from) → IsTextOfMigrated first file passes.text
 
 -- a portfolio in version 2 has the verdicts and the flow lines that it has as it is
-pub record SaysTheSame (b : Book) : Type 0 where
-  pub verdicts : (s : Status) (text : List ℕ) → IsCheckText b s text → IsCheckText (migrated b) s text
-  pub flows :
-      (net : Bool) (only : Option (List ℕ)) (fixings : Environment) (last : ℤ) (text : List ℕ)
-      → AreLinesAsked net b.declarations fixings last (used only b) text
-      → AreLinesAsked net (migrated b).declarations fixings last (used only (migrated b)) text
-
 abbrev pub MigratedSayTheSame : Type 0
 MigratedSayTheSame = (b : Book) → SaysTheSame b
 

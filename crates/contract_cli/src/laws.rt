@@ -18,7 +18,7 @@ ghost use Rattle.contract_cli.specs.NovateRuns.{NovatedTextsAdvance, NovatedText
 ghost use Rattle.contract_cli.specs.PayoffLaws.{PayoffTextsMean};
 ghost use Rattle.contract_cli.specs.RunLaws.{AnswersHaveCauses, DoneHasTold, ReadFaultsHaveCauses, RunIsComplete, StatusesAreExact, StatusesOverFilesAreExact, TooLongComes, TooLongHasACause, UsageIsExact, UsageWritesItsLine, WriteFaultsHaveCauses};
 ghost use Rattle.contract_cli.specs.SampleLaws.{SampleHasThreeEnds};
-ghost use Rattle.contract_cli.specs.TwoRuns.{AdvancedTextsAdvance, AdvancedTextsAreAccepted, MigratedSayTheSame, MigratedStay, MigratedTextsAreTexts, PrintedCodeIsTaken, PrintedCodeIsValued};
+ghost use Rattle.contract_cli.specs.TwoRuns.{AdvancedTextsAdvance, AdvancedTextsAreAccepted, MigratedSayTheSame, MigratedStay, MigratedTextsAreTexts, PrintedCodeIsTaken, PrintedCodeIsTakenByScenarios, PrintedCodeIsTotalled, PrintedCodeIsValued};
 
 /// Each status but out of memory comes exactly where it is due, or memory is wanting: that of the
 /// first stage of the run that passes nothing, or that of the end; and with it the text of the
@@ -137,6 +137,13 @@ pub fn declared_names_have_places()
 pub fn printed_code_is_valued()
     ensures taken { PrintedCodeIsTaken }
     ensures valued { PrintedCodeIsValued }
+{}
+
+/// So for `scenarios`: each value that it prints of what `payoff` has printed is what the contract
+/// is worth in that scenario, all of it where the code is plain, and else what is left to pay.
+pub fn printed_code_is_totalled()
+    ensures taken { PrintedCodeIsTakenByScenarios }
+    ensures totalled { PrintedCodeIsTotalled }
 {}
 
 /// What `advance` prints of a portfolio that `advance` has printed carries the first contracts to
