@@ -1,5 +1,5 @@
 -- The laws of a run's status, over its course.
-use Rattle.std.proofs.Common.{◌≡◌, ◌∙◌, ◌≤◌, inl, inr, ℕ, List, length, ap, arith, subst, sym}
+use Rattle.std.proofs.Common.{◌≡◌, ◌∙◌, ◌≤◌, ◌⊎◌, inl, inr, ℕ, List, length, ap, arith, subst, sym}
 use Rattle.std.specs.Prelude.{None}
 use Rattle.report.specs.FaultLines.{fault_text}
 use Rattle.report.specs.declared.fault_lines.Fault.{Fault}
@@ -135,6 +135,13 @@ statuses_over_files_are_exact words edge s wanted request inputs m r no_memory =
       comes = λ h. exact.comes (due_in_run words edge request inputs r wanted h);
       only = λ is. (due_of_run words edge request inputs r wanted (exact.only is).0, written_over words edge request inputs r wanted (exact.only is).1);
     }
+
+-- the answer to files that are read whole is written, where memory is not wanting
+pub whole_answer : (words : List (List ℕ)) (edge : Edge) (s : Status) (request : Request) (inputs : List (List ℕ)) → Meets words edge s → IsReadWhole words edge request inputs
+    → IsWritten (course_of request inputs) edge s ⊎ (s ≡ status.NoMemory)
+whole_answer words edge s request inputs (written text a w) r = inl (text, over_files words edge request inputs r s text (answers_have_causes words edge.files s text a), w)
+whole_answer words edge s request inputs (broken e due text a w) r = absurd (r.no_write_fault w.0)
+whole_answer words edge s request inputs (lacking e w) r = inr e
 
 -- ---- usage
 

@@ -14,6 +14,8 @@ pub mod TextRuns
 pub mod NettingTexts
 pub mod HeadlineFacts
 pub mod TwoRunFacts
+pub mod VersionFacts
+pub mod MigratedRuns
 pub mod ExpandTexts
 pub mod NovateTexts
 pub mod NovateRuns

@@ -12,5 +12,6 @@ pub mod Headline
 pub mod DueOfLifecycle
 pub mod DueOfTexts
 pub mod TwoRuns
+pub mod MigratedRuns
 pub mod ExpandLaws
 pub mod NovateRuns

@@ -12,6 +12,7 @@ ghost use Rattle.contract_cli.specs.AdvanceLaws.{AdvanceTextsAreTexts, AdvancesC
 ghost use Rattle.contract_cli.specs.DueOfLifecycle.{DueOfAdvance, DueOfNovate};
 ghost use Rattle.contract_cli.specs.DueOfTexts.{DueOfCheck, DueOfExpand, DueOfMigrate, DueOfPayoff};
 ghost use Rattle.contract_cli.specs.ExpandLaws.{ExpandedPlansAreListed, ExpandedTextsAreAccepted, ExpandedTextsAreTexts};
+ghost use Rattle.contract_cli.specs.MigratedRuns.{MigratedTextsAdvance, MigratedTextsAreChecked, MigratedTextsAreListed};
 ghost use Rattle.contract_cli.specs.NettingLaws.{PrintedPositionsBalance, PrintedSettlementsSettle, SettlementsSettlePositions};
 ghost use Rattle.contract_cli.specs.NovateLaws.{NovateTextsAreTexts};
 ghost use Rattle.contract_cli.specs.NovateRuns.{NovatedTextsAdvance, NovatedTextsAreAccepted, NovatedTextsAreListed};
@@ -159,6 +160,15 @@ pub fn migrated_texts_say_the_same()
     ensures texts { MigratedTextsAreTexts }
     ensures same { MigratedSayTheSame }
     ensures stay { MigratedStay }
+{}
+
+/// What `check` and `flows` answer to what `migrate` has printed, they answer to the portfolio that
+/// was migrated: the same status and the same text, or the line of the same fault. So does
+/// `advance`, but that what is left stands in version 2.
+pub fn migrated_texts_answer_the_same()
+    ensures checked { MigratedTextsAreChecked }
+    ensures listed { MigratedTextsAreListed }
+    ensures advanced { MigratedTextsAdvance }
 {}
 
 /// What `expand` prints of a schedule file is a text of the portfolio of its plans' contracts,
