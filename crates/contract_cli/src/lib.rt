@@ -5,9 +5,9 @@
 //! let status = run(alloc, &words, &mut files, &mut out);
 //! ```
 //!
-//! Promised: each status of `run` has its cause and its text (`Meets`), and what `check`,
-//! `advance`, `novate`, `payoff`, `value` and `scenarios` write means what the written rules and
-//! the model say (`Headline`); `laws` has when each status comes and what two runs say together.
+//! Promised: each status of `run` has its cause and its text (`Meets`), and what each command
+//! writes means what the written rules and the model say (`Headline`); `laws` has when each status
+//! comes, the causes of each, and what two runs say together.
 //! Only tested: that each file is read once and in order.
 #![tactic(auto)]
 
