@@ -3,11 +3,13 @@
 use term_model::{Contr, DaySum, Days, Expr};
 
 // Whether two pairs of expressions are the same.
+#[cycle(expressions)]
 fn are_same_exprs(one: (&Expr, &Expr), other: (&Expr, &Expr)) -> bool {
     is_same_expr(one.0, other.0) && is_same_expr(one.1, other.1)
 }
 
 /// Whether two expressions are the same.
+#[cycle(expressions)]
 pub fn is_same_expr(one: &Expr, other: &Expr) -> bool {
     match (one, other) {
         (Expr::Lit { mant, scale }, Expr::Lit { mant: m, scale: s }) => mant == m && scale == s,
