@@ -53,8 +53,8 @@ class Words(unittest.TestCase):
         for words, said in [
             ([], "a command is missing"),
             (["--help"], "the program has no --help"),
-            (["chekc", "book"], "there is no command chekc; is check meant?"),
-            (["flows", "book", "--util", "3"], "--util is no option of flows; is --until meant?"),
+            (["chekc", "book"], "there is no command chekc; perhaps check"),
+            (["flows", "book", "--util", "3"], "--util is no option of flows; perhaps --until"),
             (["flows", "book", "--until"], "--until has no value"),
             (["flows", "book", "--until", "2026-02-30"], "2026-02-30 behind --until is not a day"),
             (["flows", "book", "--contract", "zero"], "and zero is a word of the language"),

@@ -4,9 +4,9 @@ from __future__ import annotations
 
 import os
 import random
+import resource
 import subprocess
 import sys
-import time
 import unittest
 
 from tests.support import DESK, EXAMPLES, Ran, Room, run_desk, the_program
@@ -70,7 +70,7 @@ class Texts(Explained):
                 ("flag F; flag F;", "book.txt:5:14: twice", "F is declared in line 5 already"),
                 ("party X;", "book.txt:5:1: syntax", "the order is amounts origin start party asset"),
                 ("Flag F;", "book.txt:5:1: syntax", "is `flag` meant?"),
-                ("template T = 100001;", "book.txt:5:14: number", "from 0 to 100,000"),
+                ("template T = 100001;", "book.txt:5:14: number", "from 0 to 100000"),
                 ("flag F\nflag G;", "book.txt:6:1: syntax", "a `;` is missing behind `F`"),
                 ("flag F // a comment", "book.txt:5:8: syntax", "a comment begins with #, not with //"),
             ],
@@ -298,11 +298,11 @@ class Others(Explained):
         self.assertEqual(ran.status, 2)
         form = "value CODE FIX CURVE [T=N].. --at DAY --from P --to Q --asset A"
         self.assertEqual(ran.errors, f"value: --asset is missing; the command is `{form}`\n")
-        self.assertEqual(run_desk("explain", "chekc", "x").errors, "tilugba: there is no command chekc; is check meant?\n")
+        self.assertEqual(run_desk("explain", "chekc", "x").errors, "tilugba: there is no command chekc; perhaps check\n")
         self.assertIn("a command is missing", run_desk("explain").errors)
 
     def test_names_and_days(self) -> None:
-        self.assertIn("there is no contract d; contracts are c", self.explain(self.BOOK, "--contract", "d", command="payoff").errors)
+        self.assertIn("there is no contract d; contracts: c", self.explain(self.BOOK, "--contract", "d", command="payoff").errors)
         ran = self.explain(self.BOOK, "--until", "2025-12-01", command="flows")
         self.assertIn("2025-12-01 is out of range: days go from the start, 2026-01-05 (day 0, a Monday)", ran.errors)
         bare = self.BOOK.replace("origin 2026-01-05;", "")
@@ -312,7 +312,7 @@ class Others(Explained):
         self.file("book.txt", self.BOOK)
         ran = run_desk("explain", "check", self.folder / "boook.txt")
         self.assertEqual(ran.status, 3)
-        self.assertIn("there is no such file; is book.txt meant?", ran.errors)
+        self.assertIn("there is no such file; perhaps book.txt", ran.errors)
         self.assertIn("it is a folder", run_desk("explain", "check", self.folder).errors)
         long = self.file("long.txt", b" " * 16_777_217)
         ran = run_desk("explain", "check", long)
@@ -352,7 +352,8 @@ class Everywhere(Room):
             example = chance.choice(examples())
             data = edited(example.data, chance)
             path = str(self.file("text", data))
-            words = {CODE: ["value", path, path, path, "--at", "0", "--from", "A", "--to", "B", "--asset", "E"], SCHEDULES: ["expand", path]}
+            value = ["value", path, path, path, "--at", "0", "--from", "A", "--to", "B", "--asset", "E"]
+            words = {CODE: value, SCHEDULES: ["expand", path]}
             run_words = words.get(example.grammar, ["check", path])
             run = Run(run_words, program, program.run(*run_words))
             for note in notes_of(run):
@@ -363,16 +364,20 @@ class Everywhere(Room):
         self.assertGreater(explained, 300)
 
     def test_time(self) -> None:
-        """On a text of 100 kB an explanation takes little more than Python itself; the limit has room for a machine with other work."""
+        """On a text of 100 kB an explanation takes little more of the processor than Python's own start, by the best of some runs."""
         lines = [f"contract c{number} = scale(5.00, pay(EUR, Me, Acme));\n" for number in range(2_000)]
         path = self.file("book.txt", HEAD + "".join(lines) + "contract d = scale(1,5, zero);")
         self.assertGreater(path.stat().st_size, 95_000)
-        times = []
-        for words in (["-c", "import argparse, subprocess, dataclasses"], [str(DESK / "tilugba-desk"), "explain", "check", str(path)]):
-            start = time.perf_counter()
-            subprocess.run([sys.executable, *words], capture_output=True, env=os.environ)
-            times.append(time.perf_counter() - start)
-        self.assertLess(times[1] - times[0], 2)
+        start = min(self.processor_time("-c", "pass") for _ in range(5))
+        explained = min(self.processor_time(str(DESK / "tilugba-desk"), "explain", "check", str(path)) for _ in range(5))
+        self.assertLess(explained - start, 0.3)
+
+    def processor_time(self, *words: str) -> float:
+        """The seconds of a processor that Python takes for these words."""
+        before = resource.getrusage(resource.RUSAGE_CHILDREN)
+        subprocess.run([sys.executable, *words], capture_output=True, env=os.environ)
+        after = resource.getrusage(resource.RUSAGE_CHILDREN)
+        return after.ru_utime - before.ru_utime + after.ru_stime - before.ru_stime
 
 
 if __name__ == "__main__":

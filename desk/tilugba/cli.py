@@ -4,7 +4,7 @@ from __future__ import annotations
 
 import argparse
 import importlib
-import pkgutil
+import os
 import sys
 from collections.abc import Sequence
 from pathlib import Path
@@ -20,7 +20,8 @@ PURPOSE = "The desk beside the program Tilugba. It computes no money and gives n
 
 def names() -> list[str]:
     """The names of all subcommands."""
-    return sorted(module.name.replace("_", "-") for module in pkgutil.iter_modules(commands.__path__))
+    files = (name for folder in commands.__path__ for name in os.listdir(folder))
+    return sorted(name.removesuffix(".py").replace("_", "-") for name in files if name.endswith(".py") and name != "__init__.py")
 
 
 def module_of(name: str) -> ModuleType:

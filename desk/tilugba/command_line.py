@@ -104,7 +104,7 @@ def nearest(word: str, known: Sequence[str]) -> str | None:
 
 def meant(word: str, known: Sequence[str]) -> str:
     found = nearest(word, known)
-    return f"; is {found} meant?" if found else ""
+    return f"; perhaps {found}" if found else ""
 
 
 def read(words: Sequence[str]) -> Words:

@@ -1,4 +1,4 @@
-"""Warnings of what is right and probably not meant, in a portfolio and a table of fixings. They are no verdicts: those are the program's."""
+"""Warnings of what is right and probably not meant, in a portfolio and a table of fixings. Verdicts are the program's alone."""
 
 from __future__ import annotations
 
@@ -9,11 +9,11 @@ from functools import cached_property
 
 from .days import Calendar
 from .explanations.notes import counted
-from .explanations.refusals import number_told
 from .explanations.rows import Table, serial_date
 from .program import Acceptance, Verdict
 from .tables import Record, records
 from .texts.names import Declared, NameSet
+from .texts.offers import number_told
 from .texts.reading import Reading
 from .texts.reads import Days, payments_of, placed, reads_of
 from .texts.tokens import Place

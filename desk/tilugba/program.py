@@ -9,11 +9,10 @@ from __future__ import annotations
 import enum
 import os
 import re
-import shutil
 import signal
 import subprocess
-from collections.abc import Callable, Iterator, Mapping, Sequence
-from contextlib import contextmanager
+from collections.abc import Callable, Iterable, Iterator, Mapping, Sequence
+from contextlib import contextmanager, suppress
 from dataclasses import dataclass
 from pathlib import Path
 from typing import BinaryIO
@@ -135,9 +134,7 @@ class Acceptance:
     horizon: int
 
 
-Cause = (
-    UnreadFile | LongFile | BadText | UnknownName | BadDay | Refusal | BadRow | MissingFixing | TooManyScenarios | None
-)
+Cause = UnreadFile | LongFile | BadText | UnknownName | BadDay | Refusal | BadRow | MissingFixing | TooManyScenarios | None
 Verdict = Acceptance | Refusal
 
 # What is said of a fault that has no line.
@@ -151,32 +148,32 @@ MEANINGS: Mapping[int, str] = {
 
 WORD = "([A-Za-z_][A-Za-z0-9_]*)"
 COUNT = "([0-9]+)"
-ACCEPTED = re.compile(rf"{WORD} accepted start ([0-9]+|always) scale {COUNT} total ([0-9.]+) horizon {COUNT}")
-NOT_ACCEPTED = re.compile(rf"{WORD} refused ([a-z]+) node {COUNT}")
+ACCEPTED = rf"{WORD} accepted start ([0-9]+|always) scale {COUNT} total ([0-9.]+) horizon {COUNT}"
+NOT_ACCEPTED = rf"{WORD} refused ([a-z]+) node {COUNT}"
 
 # The form of the line of each status that has one, and the cause that its parts make.
-LINES: Mapping[int, tuple[re.Pattern[str], Callable[..., Cause]]] = {
+LINES: Mapping[int, tuple[str, Callable[..., Cause]]] = {
     Status.REFUSED: (
-        re.compile(rf"fault refused {WORD} ([a-z]+) node {COUNT}"),
+        rf"fault refused {WORD} ([a-z]+) node {COUNT}",
         lambda name, rule, node: Refusal(name, rule, int(node)),
     ),
-    Status.UNREAD: (re.compile(rf"fault read {COUNT}"), lambda place: UnreadFile(int(place))),
-    Status.TOO_LONG: (re.compile(rf"fault too long {COUNT}"), lambda place: LongFile(int(place))),
+    Status.UNREAD: (rf"fault read {COUNT}", lambda place: UnreadFile(int(place))),
+    Status.TOO_LONG: (rf"fault too long {COUNT}", lambda place: LongFile(int(place))),
     Status.TEXT: (
-        re.compile(rf"fault text ([a-z0-9]+) line {COUNT} column {COUNT}"),
+        rf"fault text ([a-z0-9]+) line {COUNT} column {COUNT}",
         lambda kind, line, column: BadText(kind, int(line), int(column)),
     ),
-    Status.UNKNOWN: (re.compile(rf"fault unknown {WORD}"), UnknownName),
-    Status.DAY: (re.compile(r"fault day (.+)"), BadDay),
+    Status.UNKNOWN: (rf"fault unknown {WORD}", UnknownName),
+    Status.DAY: (r"fault day (.+)", BadDay),
     Status.ROW: (
-        re.compile(rf"fault row file {COUNT} record {COUNT} ([a-z]+)(?: with {COUNT})?"),
+        rf"fault row file {COUNT} record {COUNT} ([a-z]+)(?: with {COUNT})?",
         lambda place, record, kind, earlier: BadRow(int(place), int(record), kind, int(earlier) if earlier else None),
     ),
     Status.MISSING: (
-        re.compile(rf"fault missing {WORD} (-?[0-9]+)(?: in {WORD})?"),
+        rf"fault missing {WORD} (-?[0-9]+)(?: in {WORD})?",
         lambda label, day, scenario: MissingFixing(label, int(day), scenario),
     ),
-    Status.SCENARIOS: (re.compile(rf"fault scenarios {COUNT}"), lambda count: TooManyScenarios(int(count))),
+    Status.SCENARIOS: (rf"fault scenarios {COUNT}", lambda count: TooManyScenarios(int(count))),
 }
 
 
@@ -186,8 +183,8 @@ class Fault(Stop):
     def __init__(self, status: int, line: str) -> None:
         super().__init__(status, line or MEANINGS.get(status, f"the program ended with status {status}"))
         self.line = line
-        form, cause_of = LINES.get(status, (None, None))
-        told = form.fullmatch(line) if form else None
+        form, cause_of = LINES.get(status, ("", None))
+        told = re.fullmatch(form, line)
         self.cause: Cause = cause_of(*told.groups()) if told and cause_of else None
 
 
@@ -225,10 +222,10 @@ class Answer:
 
 
 def verdict_of(line: str) -> Verdict:
-    if told := ACCEPTED.fullmatch(line):
+    if told := re.fullmatch(ACCEPTED, line):
         name, start, scale, total, horizon = told.groups()
         return Acceptance(name, start, int(scale), total, int(horizon))
-    if told := NOT_ACCEPTED.fullmatch(line):
+    if told := re.fullmatch(NOT_ACCEPTED, line):
         return Refusal(told[1], told[2], int(told[3]))
     raise Stop(Status.DESK, f"check printed a line that is no verdict: {line}")
 
@@ -243,24 +240,31 @@ class Program:
     def run(self, *words: str | os.PathLike[str] | bytes) -> Answer:
         """Runs the program on words. Bytes are the contents of a file: the program gets a name for them."""
         with file_names(words) as (named, handles):
-            try:
-                ran = subprocess.run(
-                    [self.path, *named],
-                    stdin=subprocess.DEVNULL,
-                    capture_output=True,
-                    pass_fds=handles,
-                    timeout=self.seconds,
-                    check=False,
-                )
-            except subprocess.TimeoutExpired as error:
-                raise Stop(Status.DESK, f"{self.path} was ended: it took more than {self.seconds:g} seconds") from error
-            except (OSError, ValueError) as error:
-                raise Stop(Status.DESK, f"{self.path} does not start: {reason_of(error)}") from error
-        if ran.returncode < 0:
-            raise Stop(status_of(ran.returncode), f"{self.path} was killed by signal {signal_name(-ran.returncode)}")
-        if ran.returncode == Status.DESK:
-            raise Stop(Status.DESK, f"{self.path} gave no answer{last_line(ran.stderr)}")
-        return Answer(ran.returncode, ran.stdout, ran.stderr)
+            status, output, said = self.ended([os.fspath(self.path), *named], handles)
+        if status < 0:
+            raise Stop(status_of(status), f"{self.path} was killed by signal {signal_name(-status)}")
+        if status == Status.DESK:
+            raise Stop(Status.DESK, f"{self.path} gave no answer{last_line(said)}")
+        return Answer(status, output, said)
+
+    def ended(self, words: list[str], handles: list[int]) -> tuple[int, bytes, bytes]:
+        """Runs words to their end: the status, and what was written. A run that is given up ends with all that it started."""
+        pipe = subprocess.PIPE
+        try:
+            process = subprocess.Popen(
+                words, stdin=subprocess.DEVNULL, stdout=pipe, stderr=pipe, pass_fds=handles, start_new_session=True
+            )
+        except (OSError, ValueError) as error:
+            raise Stop(Status.DESK, f"{self.path} does not start: {reason_of(error)}") from error
+        try:
+            output, said = process.communicate(timeout=self.seconds)
+        except subprocess.TimeoutExpired as error:
+            end(process)
+            raise Stop(Status.DESK, f"{self.path} was ended: it took more than {self.seconds:g} seconds") from error
+        except BaseException:
+            end(process)
+            raise
+        return process.returncode, output, said
 
     def start(self, words: Sequence[str], output: BinaryIO) -> subprocess.Popen[bytes]:
         """Starts a run whose output goes into a file; who starts it waits for it."""
@@ -274,6 +278,13 @@ class Program:
             process.kill()
             process.wait()
             return Status.DESK
+
+
+def end(process: subprocess.Popen[bytes]) -> None:
+    """Ends a process and those that it started, which are a group of their own."""
+    with suppress(ProcessLookupError):
+        os.killpg(process.pid, signal.SIGKILL)
+    process.communicate()
 
 
 def status_of(code: int) -> int:
@@ -321,13 +332,21 @@ def file_name(word: str | os.PathLike[str] | bytes, handles: list[int]) -> str:
 def find(named: str | None, beside: Path, seconds: float | None = None) -> Program:
     """The program that is named, or else that of the environment, one beside the command, in its clone, or in the PATH."""
     if given := named or os.environ.get(VARIABLE):
-        found = None if os.sep in given else shutil.which(given)
-        return Program(Path(found or given).absolute(), seconds)
-    for path in candidates(beside):
-        if path.is_file() and os.access(path, os.X_OK):
-            return Program(path.absolute(), seconds)
+        found = None if os.sep in given else first_program(in_path(given))
+        return Program(found or Path(given).absolute(), seconds)
+    if found := first_program(candidates(beside)):
+        return Program(found, seconds)
     built = f"; in a clone, ./{NAME} builds it" if is_clone(beside.parent) else ""
     raise Stop(Status.DESK, f"there is no program {NAME}: name it by --program or {VARIABLE}, or put it into the PATH{built}")
+
+
+def first_program(paths: Iterable[Path]) -> Path | None:
+    """The first of them that can be run."""
+    return next((path.absolute() for path in paths if path.is_file() and os.access(path, os.X_OK)), None)
+
+
+def in_path(name: str) -> Iterator[Path]:
+    return (Path(folder) / name for folder in os.get_exec_path())
 
 
 def is_clone(folder: Path) -> bool:
@@ -339,5 +358,4 @@ def candidates(beside: Path) -> Iterator[Path]:
     yield beside / NAME
     if is_clone(beside.parent):
         yield beside.parent / "built" / NAME
-    for folder in os.get_exec_path():
-        yield Path(folder) / NAME
+    yield from in_path(NAME)

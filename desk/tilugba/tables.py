@@ -11,7 +11,8 @@ from dataclasses import dataclass
 from pathlib import Path
 
 from .days import Day, day_of
-from .program import Status, Stop, reason_of
+from .files import read_file
+from .program import Status, Stop
 
 FIXINGS = ("label", "day", "value")
 CURVE = ("offset", "factor")
@@ -40,14 +41,6 @@ class Record:
     @property
     def texts(self) -> tuple[str, ...]:
         return tuple(field.decode("utf-8", "replace") for field in self.fields)
-
-
-def read_file(path: str | Path) -> bytes:
-    """The bytes of a file; one that is not read ends the command."""
-    try:
-        return Path(path).read_bytes()
-    except (OSError, ValueError) as error:
-        raise Stop(Status.UNREAD, f"{path}: {reason_of(error)}") from error
 
 
 def records(data: bytes) -> Iterator[Record]:

@@ -13,7 +13,7 @@ import stat
 
 from ..desk import Desk
 from ..program import Answer, Status, Stop
-from ..tables import read_file
+from ..files import read_file
 
 
 def configure(parser: argparse.ArgumentParser) -> None:

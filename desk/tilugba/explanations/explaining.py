@@ -1,4 +1,4 @@
-"""Explains a run that did not end with 0: by its cause, to the module that knows it."""
+"""Explains a run that did not end with 0: by its cause, to the module that knows it, which is loaded then."""
 
 from __future__ import annotations
 
@@ -7,6 +7,7 @@ from collections.abc import Iterator, Sequence
 from dataclasses import dataclass, field
 from functools import cached_property
 from pathlib import Path
+from typing import TYPE_CHECKING
 
 from .. import command_line
 from ..command_line import BOOK, CODE_FILE, FIX, GRAMMARS, PLANS, SCEN, Words
@@ -26,12 +27,14 @@ from ..program import (
     UnknownName,
     UnreadFile,
 )
-from ..tables import read_file
+from ..files import read_file
 from ..texts.grammar import Grammar
 from ..texts.names import NameSet
 from ..texts.reading import Reading
-from . import missing, refusals, rows, text_faults, usage
-from .notes import Note, listed
+from .notes import Note
+
+if TYPE_CHECKING:
+    from .rows import Table
 
 LAST_DAY, LAST_NEW_DAY = 1_100_000, 1_000_000
 
@@ -78,7 +81,7 @@ def notes_of(run: Run) -> Iterator[Note]:
     if fault is None:
         return
     if run.answer.status == Status.USAGE:
-        yield usage.note_of(run.words)
+        yield usage_note(run)
         return
     if run.answer.status == Status.REFUSED and fault.cause is None:
         for verdict in run.answer.verdicts():
@@ -87,7 +90,7 @@ def notes_of(run: Run) -> Iterator[Note]:
         return
     match fault.cause:
         case BadText() as cause:
-            yield text_faults.note_of(run.text_file, run.data(run.text_file), run.grammar, cause)
+            yield text_note(run, cause)
         case Refusal() as cause:
             yield refused_note(run, cause)
         case BadRow() as cause:
@@ -106,21 +109,41 @@ def notes_of(run: Run) -> Iterator[Note]:
             yield Note("tilugba", fault.message)
 
 
+def usage_note(run: Run) -> Note:
+    from . import usage
+
+    return usage.note_of(run.words)
+
+
+def text_note(run: Run, cause: BadText) -> Note:
+    from . import text_faults
+
+    return text_faults.note_of(run.text_file, run.data(run.text_file), run.grammar, cause)
+
+
 def refused_note(run: Run, refusal: Refusal) -> Note:
+    from . import refusals
+
     return refusals.note_of(run.text_file, run.data(run.text_file), run.grammar, refusal)
 
 
-def table_of(run: Run, place: int) -> rows.Table:
+def table_of(run: Run, place: int) -> Table:
+    from .rows import Table
+
     name = run.asked.files[place - 1]
     role = run.asked.form.files[place - 1]
-    return rows.Table(name, role, run.text_file, run.data(name), run.reading.declared)
+    return Table(name, role, run.text_file, run.data(name), run.reading.declared)
 
 
 def row_note(run: Run, cause: BadRow) -> Note:
+    from . import rows
+
     return rows.note_of(table_of(run, cause.place), cause)
 
 
 def missing_note(run: Run, cause: MissingFixing) -> Note:
+    from . import missing, rows
+
     fixings = run.asked.file(FIX)
     until = run.asked.options.get("--until")
     behind = [run.data(fixings)] if fixings else []
@@ -151,7 +174,7 @@ def file_note(name: str, status: int) -> Note:
         return Note(name, "it is a folder")
     if not path.exists():
         near = command_line.nearest(path.name, siblings(path))
-        return Note(name, "there is no such file" + (f"; is {near} meant?" if near else ""))
+        return Note(name, "there is no such file" + (f"; perhaps {near}" if near else ""))
     return Note(name, "it may not be read" if not os.access(path, os.R_OK) else "the read failed")
 
 
@@ -170,8 +193,8 @@ def unknown_note(run: Run, name: str) -> Note:
     kind = kinds[option] if option else NameSet.TEMPLATE
     known = list(run.reading.defined if kind is NameSet.CONTRACT else run.reading.declared.names(kind))
     near = command_line.nearest(name, known)
-    many = f"{listed(known[:12])}{' and others' if len(known) > 12 else ''}"
-    said = f"there is no {kind.value} {name}; {kind.plural} are {many}" if known else f"there is no {kind.value}"
+    said = f"there is no {kind.value} {name}; {kind.plural}: {', '.join(known[:12])}{' and others' if len(known) > 12 else ''}"
+    said = said if known else f"there is no {kind.value}"
     return Note(run.text_file, said, lines=(f"is {near} meant?",) if near else ())
 
 

@@ -62,15 +62,12 @@ def readers(reading: Reading, asked: Asked, cause: MissingFixing, program: Progr
 
 
 def may_read(reading: Reading, name: str, label: str, day: int) -> bool:
+    """Whether a contract may read the label on a day, by its text. One without the label is not even parsed."""
     number = reading.definition(name)
-    term = reading.read(number).statement.term if number is not None else None
-    if term is None or cannot_read(reading, number, label):
+    if number is None or label not in reading.slice(number):
         return False
-    return any(it == label and days.have(day) for it, days in reads_of(term, reading.declared))
-
-
-def cannot_read(reading: Reading, number: int | None, label: str) -> bool:
-    return number is None or label not in reading.slice(number)
+    term = reading.read(number).statement.term
+    return term is not None and any(it == label and days.have(day) for it, days in reads_of(term, reading.declared))
 
 
 def reads(program: Program, asked: Asked, name: str, cause: MissingFixing) -> bool:

@@ -11,9 +11,9 @@ from ..days import Calendar, day_of
 from ..program import BadRow
 from ..tables import Record
 from ..texts.names import Declarations, Declared, NameSet
+from ..texts.offers import number_told
 from ..texts.tokens import GAP, Place, Source
 from .notes import Note, listed
-from .refusals import number_told
 from .text_faults import shortened
 
 HEADERS = {FIX: tables.FIXINGS, CURVE: tables.CURVE, SCEN: tables.SCENARIOS}

@@ -7,7 +7,7 @@ from ..texts import tokens
 from ..texts.grammar import Grammar
 from ..texts.machine import Fault
 from ..texts.reading import Reading
-from ..texts.tokens import Place
+from ..texts.tokens import BYTE_ORDER_MARK, Place
 from . import cures
 from .notes import Note
 from .scenes import Scene
@@ -65,8 +65,10 @@ def named(reading: Reading, fault: Fault) -> str:
     if fault.token.kind == tokens.END:
         return "the end of the text"
     if fault.token.kind == tokens.STRAY:
-        if reading.text[fault.at : fault.at + 64].isidentifier():
+        if reading.text[fault.at : fault.at + 64].isidentifier() and reading.text[fault.at].isascii():
             return "a word of more than 64 characters"
+        if reading.source.data.startswith(BYTE_ORDER_MARK, fault.at):
+            return "a byte order mark"
         character = reading.source.data[fault.at : fault.at + 4].decode("utf-8", "ignore")[:1]
         return f"{character!r}, with which nothing begins"
     return f"'{shortened(fault.token.text)}'"

@@ -3,7 +3,6 @@
 from __future__ import annotations
 
 from dataclasses import dataclass, field
-from decimal import Context, Decimal
 
 from . import tokens
 from .names import NameSet
@@ -11,7 +10,6 @@ from .tokens import Token
 
 GREATEST_MANTISSA = 10**37
 GREATEST_DECIMALS = 27
-EXACT = Context(prec=20_000, Emax=1_000_000, Emin=-1_000_000)
 
 
 def whole_number(text: str, most: int) -> int | None:
@@ -30,19 +28,26 @@ def mantissa_of(text: str) -> tuple[int, int] | None:
     return None if mantissa is None or len(decimals) > GREATEST_DECIMALS else (mantissa, len(decimals))
 
 
+def number_told(mantissa: int, decimals: int) -> str:
+    """A number as it is written, from a count of its last decimal."""
+    digits = str(abs(mantissa)).rjust(decimals + 1, "0")
+    whole, fraction = digits[: len(digits) - decimals], digits[len(digits) - decimals :]
+    return f"{'-' if mantissa < 0 else ''}{whole}{'.' if fraction else ''}{fraction}"
+
+
 @dataclass(frozen=True)
 class Numbers:
-    """Numbers within bounds, with at most so many decimals."""
+    """Numbers with at most so many decimals, within bounds that are counted in the last of these."""
 
     decimals: int
-    low: Decimal | None = None
-    high: Decimal | None = None
+    low: int | None = None
+    high: int | None = None
 
     def has(self, text: str) -> bool:
         written = mantissa_of(text)
         if written is None or written[1] > self.decimals:
             return False
-        number = EXACT.create_decimal(text)
+        number = written[0] * 10 ** (self.decimals - written[1])
         return (self.low is None or self.low <= number) and (self.high is None or number <= self.high)
 
     @property
@@ -53,8 +58,8 @@ class Numbers:
         kind = "a number" if self.decimals else "a number without a point"
         if 0 < self.decimals < GREATEST_DECIMALS:
             kind += f" with at most {self.decimals} decimal" + "s" * (self.decimals > 1)
-        low = f"{self.low:f}" if self.low is not None else None
-        high = f"{self.high:,f}" if self.high is not None else None
+        low = number_told(self.low, self.decimals) if self.low is not None else None
+        high = number_told(self.high, self.decimals) if self.high is not None else None
         if low is not None and high is not None:
             return f"the number {low}" if low == high else f"{kind} from {low} to {high}"
         if low is not None:

@@ -6,13 +6,12 @@ deep, range, twice, unknown.
 
 from __future__ import annotations
 
-from decimal import Decimal
 from typing import TYPE_CHECKING
 
 from ..days import ordinal_of
 from . import tokens, trees
 from .names import Declared, NameSet
-from .offers import EXACT, GREATEST_DECIMALS, GREATEST_MANTISSA, Numbers, Offers, mantissa_of, whole_number
+from .offers import GREATEST_DECIMALS, GREATEST_MANTISSA, Numbers, Offers, mantissa_of, whole_number
 from .tokens import Token
 from .trees import Argument, Term
 
@@ -152,7 +151,7 @@ class Integer(Number):
         """What the number is for."""
 
     def range(self, negative: bool, machine: Machine) -> Numbers:
-        return Numbers(0, Decimal(self.low), Decimal(self.limit(machine)))
+        return Numbers(0, self.low, self.limit(machine))
 
 
 class Version(Integer):
@@ -261,12 +260,10 @@ class Bound(Number):
 
     def range(self, negative: bool, machine: Machine) -> Numbers:
         label = machine.last_declared
-        greatest = Decimal(GREATEST_MANTISSA).scaleb(-(label.decimals or 0), EXACT)
-        low, high = Decimal(0), greatest
+        low, high = 0, GREATEST_MANTISSA
         if self.is_upper and label.low is not None:
-            lowest = Decimal(label.low).scaleb(-(label.decimals or 0), EXACT)
-            low, high = (low, min(high, -lowest)) if negative else (max(low, lowest), high)
-        return Numbers(label.decimals or 0, low if low > 0 else None, None if high == greatest else high)
+            low, high = (low, min(high, -label.low)) if negative else (max(low, label.low), high)
+        return Numbers(label.decimals or 0, low if low > 0 else None, None if high == GREATEST_MANTISSA else high)
 
 
 class Signed(Part):
@@ -500,7 +497,7 @@ class DayItem(Part):
     def offers(self, machine: Machine) -> Offers:
         templates = list(machine.declared.sets[NameSet.TEMPLATE])
         names = {} if machine.sum_names == MOST_NAMES else {NameSet.TEMPLATE.plural: templates}
-        return Offers(names=names, numbers=[Numbers(0, Decimal(0), Decimal(GREATEST_SUM - machine.sum_number))])
+        return Offers(names=names, numbers=[Numbers(0, 0, GREATEST_SUM - machine.sum_number)])
 
 
 class FurtherItems(Part):
