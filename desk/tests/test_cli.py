@@ -1,5 +1,6 @@
 """The command itself: its subcommands, their words, and that no traceback reaches a user."""
 
+import os
 import subprocess
 import sys
 import unittest
@@ -70,6 +71,18 @@ class Processes(Room):
         ran = subprocess.run([sys.executable, "-c", script], cwd=DESK, capture_output=True, text=True)
         self.assertEqual(ran.returncode, 70)
         self.assertEqual(ran.stderr, "tilugba-desk: this should not happen: ZeroDivisionError: division by zero\n")
+
+    def test_output_that_cannot_be_written(self) -> None:
+        """A disk that is full, and a pipe that nobody reads: one line, and Python says no more at its end."""
+        book = self.file("book.txt", "portfolio 1; amounts 2;" + "# a comment\n" * 20_000)
+        reader, writer = os.pipe()
+        os.close(reader)
+        for output in (os.open("/dev/full", os.O_WRONLY), writer):
+            ran = subprocess.run([DESK / "tilugba-desk", "format", book], stdout=output, stderr=subprocess.PIPE, text=True)
+            os.close(output)
+            self.assertEqual(ran.returncode, 4)
+            self.assertEqual(ran.stderr.count("\n"), 1)
+            self.assertIn("tilugba-desk format: the output was not written whole", ran.stderr)
 
     def test_the_script_runs_from_any_folder(self) -> None:
         link = self.folder / "td"

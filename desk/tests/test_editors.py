@@ -28,13 +28,13 @@ contract c = after(5,  # é € 𝄞
     scale(12500.00, pay(EUR, Acme, Me)));
 """
 VSCODE = TOP / "editors" / "vscode"
-# The message of a compiler and what `explain` says below it, as Vim's own matcher and those of others have to read them.
-SHADOW = {"PATH": f"{DESK}:{os.environ['PATH']}", "LC_ALL": "C.UTF-8"}
+# The command of the desk by its name, and a locale of UTF-8.
+SHELL = {"PATH": f"{DESK}:{os.environ['PATH']}", "LC_ALL": "C.UTF-8"}
 
 
 class Editors(Room):
     def environment(self) -> dict[str, str]:
-        return os.environ | SHADOW | {"TILUGBA": str(the_program().path), "HOME": str(self.folder)}
+        return os.environ | SHELL | {"TILUGBA": str(the_program().path), "HOME": str(self.folder)}
 
     def run_editor(self, *words: str, **more: str) -> str:
         ran = subprocess.run(words, cwd=self.folder, capture_output=True, text=True, env=self.environment() | more, timeout=120)
@@ -59,7 +59,8 @@ class Editors(Room):
         self.file("book.txt", BOOK)
         script = self.file("try.vim", "edit book.txt\nsilent make!\ncall writefile([json_encode(getqflist())], 'found')\nqa!\n")
         folder = TOP / "editors" / "vim"
-        self.run_editor("vim", "-Nu", "NONE", "-i", "NONE", "-es", "--cmd", f"set rtp^={folder}", "-c", "filetype plugin on", "-S", str(script))
+        plain = ["vim", "-Nu", "NONE", "-i", "NONE", "-es"]
+        self.run_editor(*plain, "--cmd", f"set rtp^={folder}", "-c", "filetype plugin on", "-S", str(script))
         found = [it for it in json.loads((self.folder / "found").read_text()) if it["valid"]]
         self.assertEqual([(it["lnum"], it["col"]) for it in found], [(5, 12)], found)
         self.assertTrue(found[0]["text"].startswith("syntax"))

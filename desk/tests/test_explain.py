@@ -352,7 +352,8 @@ class Everywhere(Room):
             example = chance.choice(examples())
             data = edited(example.data, chance)
             path = str(self.file("text", data))
-            words = {CODE: ["value", path, path, path, "--at", "0", "--from", "A", "--to", "B", "--asset", "E"], SCHEDULES: ["expand", path]}
+            value = ["value", path, path, path, "--at", "0", "--from", "A", "--to", "B", "--asset", "E"]
+            words = {CODE: value, SCHEDULES: ["expand", path]}
             run_words = words.get(example.grammar, ["check", path])
             run = Run(run_words, program, program.run(*run_words))
             for note in notes_of(run):

@@ -84,15 +84,14 @@ class Faults(Session):
         return [it[-1] if it else [] for it in found]
 
     def test_as_one_types(self) -> None:
-        place = {"line": 3, "character": 16}
-        behind = {"line": 3, "character": 22}
-        change = {"textDocument": {"uri": URI, "version": 2}}
-        shown = self.serve_step_by_step(
-            self.opened(BOOK),
-            ("textDocument/didChange", change | {"contentChanges": [{"range": {"start": place, "end": place}, "text": " Acme Co"}]}),
-            ("textDocument/didChange", change | {"contentChanges": [{"range": {"start": {"line": 3, "character": 16}, "end": {"line": 3, "character": 24}}, "text": ""}]}),
-            ("textDocument/didChange", change | {"contentChanges": [{"range": {"start": behind, "end": {"line": 3, "character": 25}}, "text": "ä"}]}),
-        )  # fmt: skip
+        def change(start: int, end: int, text: str) -> tuple[str, dict]:
+            """A change within line 3, the fourth."""
+            there = {"start": {"line": 3, "character": start}, "end": {"line": 3, "character": end}}
+            version = {"textDocument": {"uri": URI, "version": 2}}
+            return "textDocument/didChange", version | {"contentChanges": [{"range": there, "text": text}]}
+
+        steps = [change(16, 16, " Acme Co"), change(16, 24, ""), change(22, 25, "ä")]
+        shown = self.serve_step_by_step(self.opened(BOOK), *steps)
         self.assertEqual(shown[0], [])
         self.assertEqual(shown[1][0]["range"]["start"], {"line": 3, "character": 17})
         self.assertIn("here may stand: ',', ';'", shown[1][0]["message"])
@@ -188,7 +187,8 @@ class Places(Session):
         self.assertEqual(len(self.asked(BOOK, "references", *self.spot("FX"), **context)), 3)
         self.assertEqual(len(self.asked(BOOK, "references", *self.spot("FX"), context={"includeDeclaration": False})), 2)
         same = "portfolio 1; amounts 2; party A; asset A;\ncontract A = let A = 1 in scale(A, pay(A, A, A));"
-        self.assertEqual([len(self.asked(same, "references", *spot, **context)) for spot in ((0, 30), (0, 39), (1, 9), (1, 17))], [3, 2, 1, 2])
+        found = [self.asked(same, "references", *spot, **context) for spot in ((0, 30), (0, 39), (1, 9), (1, 17))]
+        self.assertEqual([len(it) for it in found], [3, 2, 1, 2])
 
     def test_outline(self) -> None:
         found = self.talk(self.opened(BOOK), ("textDocument/documentSymbol", {"textDocument": {"uri": URI}}, 1))
@@ -210,8 +210,10 @@ class Places(Session):
         self.assertEqual(self.labels(head + "contract d = let y = 1 in scale(y")[-1], "y")
         self.assertEqual(self.labels(head), ["template", "contract"])
         self.assertEqual(self.labels(head + "# a"), [])
-        self.assertEqual(self.labels("portfolio 1;\namounts 2;\npa"), ["origin", "start", "party", "asset", "num", "flag", "template", "contract"])
-        plans = "schedules 1; amounts 2; party A; asset E; num N : 0 in 0 .. 1; flag F;\nguarded g = 1 of E from A to A first 0 every 1 times 2 until "
+        lines = "origin start party asset num flag template contract".split()
+        self.assertEqual(self.labels("portfolio 1;\namounts 2;\npa"), lines)
+        head = "schedules 1; amounts 2; party A; asset E; num N : 0 in 0 .. 1; flag F;\n"
+        plans = head + "guarded g = 1 of E from A to A first 0 every 1 times 2 until "
         self.assertEqual(self.labels(plans), ["F"])
 
     def test_completion_in_the_middle(self) -> None:
@@ -246,7 +248,8 @@ class Protocol(Session):
         body = json.dumps({"jsonrpc": "2.0", "id": 1, "method": "shutdown"}).encode()
         leave = json.dumps({"jsonrpc": "2.0", "method": "exit"}).encode()
         framed = b"".join(b"Content-Length: %d\r\n\r\n" % len(it) + it for it in (body, leave))
-        for data, status in [(framed, 0), (b"", 1), (b"rubbish\n\n", 1), (b"Content-Length: 3\r\n\r\n{]}", 1), (b"Content-Length: 9\r\n\r\n[]", 1)]:
+        rubbish = [b"", b"rubbish\n\n", b"Content-Length: 3\r\n\r\n{]}", b"Content-Length: 9\r\n\r\n[]"]
+        for data, status in [(framed, 0), *((it, 1) for it in rubbish)]:
             ran = subprocess.run([sys.executable, DESK / "tilugba-desk", "language-server"], input=data, capture_output=True)
             self.assertEqual((ran.returncode, ran.stderr), (status, b""))
 

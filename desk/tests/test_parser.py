@@ -4,6 +4,7 @@ from __future__ import annotations
 
 import os
 import random
+import re
 import tempfile
 import unittest
 from collections import Counter
@@ -53,11 +54,20 @@ def compared(data: bytes, grammar: Grammar, judge: Judge) -> tuple[str, str]:
     return fault.kind, f"{grammar.name}: {fault.offers.told(most=0)}"
 
 
+def bad_origins() -> list[tuple[Example, bytes]]:
+    """Each example that has an origin, with dates that are none or out of range: random edits hit few."""
+    origin = re.compile(rb"(?<=origin )[0-9]{4}-[0-9]{2}-[0-9]{2}")
+    dates = (b"2026-02-30", b"1899-12-31", b"3000-01-01")
+    found = [it for it in examples() if origin.search(it.data)]
+    return [(it, origin.sub(dates[number % 3], it.data)) for number, it in enumerate(found)]
+
+
 def compare_some(part: int, parts: int) -> list[tuple[str, str]]:
     """Compares a part of the edits."""
+    edits = [*some_edits(1, EDITS), *bad_origins()]
     with tempfile.TemporaryDirectory() as folder:
         judge = Judge(Path(folder))
-        return [compared(data, example.grammar, judge) for example, data in some_edits(1, EDITS)[part::parts]]
+        return [compared(data, example.grammar, judge) for example, data in edits[part::parts]]
 
 
 class BesideTheProgram(Room):
@@ -73,7 +83,7 @@ class BesideTheProgram(Room):
         parts = os.cpu_count() or 1
         with ProcessPoolExecutor(parts) as pool:
             found = [it for some in pool.map(partial(compare_some, parts=parts), range(parts)) for it in some]
-        self.assertEqual(len(found), EDITS)
+        self.assertGreater(len(found), EDITS)
         self.assertEqual({kind for kind, _ in found}, KINDS)
         self.assertGreater(len({place for _, place in found}), 150)
 

@@ -1,6 +1,7 @@
 """Finding and running the program, its faults, and programs that are missing, killed or hang."""
 
 import os
+import time
 import unittest
 from pathlib import Path
 from unittest import mock
@@ -109,6 +110,14 @@ class Others(Room):
             Program(path, seconds=0.2).run("check")
         self.assertEqual(raised.exception.status, Status.DESK)
         self.assertIn("took more than 0.2 seconds", raised.exception.message)
+
+    def test_what_a_program_started_ends_with_it(self) -> None:
+        """Another process has the streams of the program, which is given up nevertheless."""
+        path = self.script("slow", "#!/bin/sh\nsleep 60\necho\n")
+        started = time.monotonic()
+        with self.assertRaises(Stop):
+            Program(path, seconds=0.2).run("check")
+        self.assertLess(time.monotonic() - started, 30)
 
     def test_a_program_that_is_killed(self) -> None:
         path = self.script("killed", "#!/bin/sh\nkill -9 $$\n")

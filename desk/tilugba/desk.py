@@ -5,6 +5,7 @@ from __future__ import annotations
 import os
 import sys
 from collections.abc import Iterable
+from contextlib import suppress
 from dataclasses import dataclass
 from functools import cached_property
 from pathlib import Path
@@ -38,6 +39,7 @@ class Desk:
             out.writelines(part.encode() if isinstance(part, str) else part for part in parts)
             out.flush()
         except OSError as error:
+            give_up(out)
             raise Stop(Status.NOT_WRITTEN, f"the output was not written whole: {reason_of(error)}") from error
 
     def tell(self, lines: Iterable[str]) -> None:
@@ -47,9 +49,17 @@ class Desk:
             out.writelines(os.fsencode(line) + b"\n" for line in lines)
             out.flush()
         except OSError:
-            pass
+            give_up(out)
 
     def complain(self, message: str) -> None:
         """Says in one line why the subcommand ends."""
         told = message.replace("\n", " ")
         self.tell([f"{COMMAND} {self.name}: {told}" if self.name else f"{COMMAND}: {told}"])
+
+
+def give_up(out: BinaryIO) -> None:
+    """What is left to write to a stream is lost, and Python does not try it once more at its end."""
+    with suppress(OSError, ValueError):
+        nowhere = os.open(os.devnull, os.O_WRONLY)
+        os.dup2(nowhere, out.fileno())
+        os.close(nowhere)

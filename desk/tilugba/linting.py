@@ -1,4 +1,4 @@
-"""Warnings of what is right and probably not meant, in a portfolio and a table of fixings. They are no verdicts: those are the program's."""
+"""Warnings of what is right and probably not meant, in a portfolio and a table of fixings. Verdicts are the program's alone."""
 
 from __future__ import annotations
 

@@ -12,7 +12,7 @@ import re
 import signal
 import subprocess
 from collections.abc import Callable, Iterable, Iterator, Mapping, Sequence
-from contextlib import contextmanager
+from contextlib import contextmanager, suppress
 from dataclasses import dataclass
 from pathlib import Path
 from typing import BinaryIO
@@ -134,9 +134,7 @@ class Acceptance:
     horizon: int
 
 
-Cause = (
-    UnreadFile | LongFile | BadText | UnknownName | BadDay | Refusal | BadRow | MissingFixing | TooManyScenarios | None
-)
+Cause = UnreadFile | LongFile | BadText | UnknownName | BadDay | Refusal | BadRow | MissingFixing | TooManyScenarios | None
 Verdict = Acceptance | Refusal
 
 # What is said of a fault that has no line.
@@ -242,24 +240,31 @@ class Program:
     def run(self, *words: str | os.PathLike[str] | bytes) -> Answer:
         """Runs the program on words. Bytes are the contents of a file: the program gets a name for them."""
         with file_names(words) as (named, handles):
-            try:
-                ran = subprocess.run(
-                    [self.path, *named],
-                    stdin=subprocess.DEVNULL,
-                    capture_output=True,
-                    pass_fds=handles,
-                    timeout=self.seconds,
-                    check=False,
-                )
-            except subprocess.TimeoutExpired as error:
-                raise Stop(Status.DESK, f"{self.path} was ended: it took more than {self.seconds:g} seconds") from error
-            except (OSError, ValueError) as error:
-                raise Stop(Status.DESK, f"{self.path} does not start: {reason_of(error)}") from error
-        if ran.returncode < 0:
-            raise Stop(status_of(ran.returncode), f"{self.path} was killed by signal {signal_name(-ran.returncode)}")
-        if ran.returncode == Status.DESK:
-            raise Stop(Status.DESK, f"{self.path} gave no answer{last_line(ran.stderr)}")
-        return Answer(ran.returncode, ran.stdout, ran.stderr)
+            status, output, said = self.ended([os.fspath(self.path), *named], handles)
+        if status < 0:
+            raise Stop(status_of(status), f"{self.path} was killed by signal {signal_name(-status)}")
+        if status == Status.DESK:
+            raise Stop(Status.DESK, f"{self.path} gave no answer{last_line(said)}")
+        return Answer(status, output, said)
+
+    def ended(self, words: list[str], handles: list[int]) -> tuple[int, bytes, bytes]:
+        """Runs words to their end: the status, and what was written. A run that is given up ends with all that it started."""
+        pipe = subprocess.PIPE
+        try:
+            process = subprocess.Popen(
+                words, stdin=subprocess.DEVNULL, stdout=pipe, stderr=pipe, pass_fds=handles, start_new_session=True
+            )
+        except (OSError, ValueError) as error:
+            raise Stop(Status.DESK, f"{self.path} does not start: {reason_of(error)}") from error
+        try:
+            output, said = process.communicate(timeout=self.seconds)
+        except subprocess.TimeoutExpired as error:
+            end(process)
+            raise Stop(Status.DESK, f"{self.path} was ended: it took more than {self.seconds:g} seconds") from error
+        except BaseException:
+            end(process)
+            raise
+        return process.returncode, output, said
 
     def start(self, words: Sequence[str], output: BinaryIO) -> subprocess.Popen[bytes]:
         """Starts a run whose output goes into a file; who starts it waits for it."""
@@ -273,6 +278,13 @@ class Program:
             process.kill()
             process.wait()
             return Status.DESK
+
+
+def end(process: subprocess.Popen[bytes]) -> None:
+    """Ends a process and those that it started, which are a group of their own."""
+    with suppress(ProcessLookupError):
+        os.killpg(process.pid, signal.SIGKILL)
+    process.communicate()
 
 
 def status_of(code: int) -> int:

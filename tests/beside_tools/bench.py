@@ -7,6 +7,7 @@ import sys
 
 TOP = os.path.realpath(os.path.join(os.path.dirname(os.path.abspath(__file__)), "..", ".."))
 EXAMPLES = os.path.join(TOP, "examples")
+CASES = os.path.join(TOP, "tests", "cases")
 
 
 class Bench:

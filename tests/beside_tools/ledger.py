@@ -33,10 +33,10 @@ def falsified(text):
 
 
 def some_flows(program):
-    """Flow lines by name: of two books of the examples, and of a random book in three assets, whose lines are reckoned too."""
+    """Flow lines by name: of a book of the examples, one of the cases, and of a random book in three assets, whose lines are reckoned too."""
     flows = {}
-    for name, book in (("desk_book", "book.txt"), ("treasury_flows", "treasury.txt")):
-        folder = os.path.join(bench.EXAMPLES, name)
+    for parent, name, book in ((bench.EXAMPLES, "desk_book", "book.txt"), (bench.CASES, "treasury_flows", "treasury.txt")):
+        folder = os.path.join(parent, name)
         status, flows[name], _ = bench.run(program, "flows", book, "fixings.csv", folder=folder)
         if status != 0:
             sys.exit(f"the flows of {name} end with {status}")

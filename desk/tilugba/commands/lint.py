@@ -35,7 +35,7 @@ FINE = (Status.DONE, Status.REFUSED, Status.MISSING)
 def configure(parser: argparse.ArgumentParser) -> None:
     parser.add_argument("book", metavar="BOOK", help="a portfolio")
     parser.add_argument("fix", metavar="FIX", nargs="?", help="a table of fixings")
-    parser.add_argument("--holidays", metavar="FILE", help="dates on which nobody pays, one a line; what stands behind a date is left aside")
+    parser.add_argument("--holidays", metavar="FILE", help="dates on which nobody pays, one a line; the rest of a line is left aside")
 
 
 def run(arguments: argparse.Namespace, desk: Desk) -> int:

@@ -115,7 +115,7 @@ def time_lines(node: Node) -> Iterator[str]:
         yield f"{node.written(read)} reads {label} {counted(days, 'day')} after the day on which it stands"
     names = dict.fromkeys(it.told("variable")[0] for it in factors if it.form == trees.NAME)
     if names:
-        yield f"what {listed(list(names))} stands for is known only later than this payment: pay later, by `after`, or bind it to what is known"
+        yield f"what {listed(list(names))} stands for is known only later than this payment: pay later, by `after`, or bind what is known"
     elif ahead:
         days = max(int(it.told("offset")[0]) for it in ahead)
         yield f"pay when it is known: after({days}, ..) with obs(.., 0); or bind it by `let` and pay {counted(days, 'day')} later"
@@ -187,7 +187,8 @@ def bound_lines(node: Node) -> Iterator[str]:
             yield f"{name} is from {number_told(label.low, label.decimals)} to {number_told(label.high, label.decimals)}"
     if node.term.form == "div":
         divisor = node.written(node.term.parts[1])
-        yield f"the divisor {divisor} may be 0 by these bounds, or the quotient too great: narrow the bounds, or divide by max({divisor}, ..)"
+        yield f"the divisor {divisor} may be 0 by these bounds, or the quotient too great"
+        yield f"narrow the bounds, or divide by max({divisor}, ..)"
     elif node.term.sort != trees.EXPRESSION:
         yield "a contract pays at most 10^27 and no number is above 10^37, counted in the last decimal: narrow the bounds, or round earlier"
     else:
