@@ -50,10 +50,10 @@ returns-in_err-inputs-clause-counts g c =
     let formed : Names words request = c.in-Ok.ensures in
     counts_by_words words files request formed (texts c.deref.result.now) (ap texts c.deref.ensures.value ∙ c.in_ok-names.ensures) c.read_files.ensures.counts
 
-pub answer_request-requires : goal.answer_request-requires
-answer_request-requires g c =
+pub invariant_of-answer_request : goal.invariant_of-answer_request
+invariant_of-answer_request g c =
     let contents = g.F.Files.contents c.args.files.now in
-    rw c.deref-2.ensures.value (were_short contents (texts c.deref.result.now) (bytes_of c.in_ok-inputs.inputs.items) c.in_ok-inputs.ensures.answer)
+    rw c.deref-2.ensures.value (record { short = were_short contents (texts c.deref.result.now) (bytes_of c.in_ok-inputs.inputs.items) c.in_ok-inputs.ensures.answer })
 
 pub returns-clause-answer : goal.returns-clause-answer
 returns-clause-answer g c =
