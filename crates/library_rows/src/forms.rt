@@ -9,8 +9,7 @@ ghost use Rattle.term_model.specs.Terms.{contract};
 ghost use Rattle.term_model.specs.WellFormed.{IsClosed};
 
 use crate::call_err::{Answer, CallErr};
-use crate::equality::is_same;
-use crate::printing::say_same;
+use crate::printing::say_sized;
 use exposure::rename;
 use std::alloc::Global;
 use term_core::{counts, instantiate, is_closed};
@@ -24,10 +23,10 @@ pub fn counted(c: &Contr, out: &mut String) -> Answer {
     Ok(())
 }
 
-/// `copy FILE`: whether a copy of it is the second one.
+/// `copy FILE`: whether a copy of it has the size of the second one.
 pub fn copied(alloc: Global, c: &Contr, wanted: &Contr, out: &mut String) -> Answer {
     let copy = c.copy(alloc)?;
-    say_same(is_same(&copy, wanted), out)
+    say_sized(&copy, wanted, out)
 }
 
 // Whether a day count is no sum, or a small one.
@@ -84,7 +83,7 @@ pub fn at_defaults(alloc: Global, decls: &Decls, c: &Contr) -> Result<Contr, Cal
     Ok(made)
 }
 
-/// `instantiate FILE`: whether it is the second one at the declared numbers of its templates.
+/// `instantiate FILE`: whether it has the size of the second one at the declared numbers.
 pub fn instance(
     alloc: Global,
     decls: &Decls,
@@ -96,11 +95,11 @@ pub fn instance(
         return Err(CallErr::Text);
     }
     let made = at_defaults(alloc, decls, c)?;
-    say_same(is_same(&made, wanted), out)
+    say_sized(&made, wanted, out)
 }
 
-/// `rename FILE`: whether it is the second one with the second party in the place of the first.
+/// `rename FILE`: whether it has that size with the second party in the place of the first.
 pub fn renamed(alloc: Global, c: &Contr, wanted: &Contr, out: &mut String) -> Answer {
     let other = rename(alloc, c, 0, 1)?;
-    say_same(is_same(&other, wanted), out)
+    say_sized(&other, wanted, out)
 }

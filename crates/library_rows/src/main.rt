@@ -16,7 +16,7 @@
 //! ```text
 //! == both parts pay nothing
 //! simplify|c
-//! | as wanted
+//! | of the wanted size
 //! ```
 //!
 //! Rows, texts, files and pieces are those of `row_language`. A further line is a call: its name,
@@ -32,7 +32,6 @@
 mod call_err;
 mod calls;
 mod codes;
-mod equality;
 mod evaluating;
 mod files;
 mod forms;

@@ -3,6 +3,8 @@
 use crate::call_err::{Answer, CallErr};
 use contract_parse::ParseErr;
 use flow_eval::FlowErr;
+use term_core::counts;
+use term_model::Contr;
 
 /// Appends whether a call has made what is wanted.
 pub fn say_same(is_same: bool, out: &mut String) -> Answer {
@@ -10,6 +12,17 @@ pub fn say_same(is_same: bool, out: &mut String) -> Answer {
         "| as wanted\n"
     } else {
         "| something else\n"
+    })?;
+    Ok(())
+}
+
+/// Appends whether a contract has the height and the number of nodes of the one that is wanted.
+/// What else it is the clause of the call says.
+pub fn say_sized(made: &Contr, wanted: &Contr, out: &mut String) -> Answer {
+    out.push_str(if counts(made) == counts(wanted) {
+        "| of the wanted size\n"
+    } else {
+        "| of another size\n"
     })?;
     Ok(())
 }

@@ -12,8 +12,7 @@ ghost use Rattle.term_model.specs.WellFormed.{HasOnlyNumbers, IsClosed};
 ghost use Rattle.specialise.specs.Specialised.{IsNear};
 
 use crate::call_err::{Answer, CallErr};
-use crate::equality::{is_same, is_same_expr};
-use crate::printing::{say_missing, say_same};
+use crate::printing::{say_missing, say_sized};
 use advance_step::{Advanced, advance, carry, step};
 use decimal::NoMemory;
 use fixing_files::Fixings;
@@ -26,8 +25,8 @@ use std::rc::Rc;
 use term_core::{SharedContr, share, unshare};
 use term_model::{Contr, Decls, Expr, LAST_START};
 
-/// `simplify FILE`: whether the first contract of a portfolio is the second one without redexes
-/// that ask for no day.
+/// `simplify FILE`: whether the first contract of a portfolio, without the redexes that ask for no
+/// day, has the size of the second one.
 pub fn simplified(
     alloc: Global,
     decls: &Decls,
@@ -40,10 +39,10 @@ pub fn simplified(
     requires numbers { HasOnlyNumbers (contract c.now) }
 {
     let simple = simplify(alloc, decls, c)?;
-    say_same(is_same(&simple, wanted), out)
+    say_sized(&simple, wanted, out)
 }
 
-/// `specialise_contr FILE TABLE DAY`: whether it is the second one with what is fixed told in it.
+/// `specialise_contr FILE TABLE DAY`: whether it has that size with what is fixed told.
 pub fn specialised(
     alloc: Global,
     decls: &Decls,
@@ -61,7 +60,13 @@ pub fn specialised(
     requires last { day ≤ℤ pos last_start }
 {
     let special = specialise_contr(alloc, decls, c, fixings, day)?;
-    say_same(is_same(&special, wanted), out)
+    say_sized(&special, wanted, out)
+}
+
+// A contract that holds an expression, to be counted.
+fn scaled(alloc: Global, factor: Expr) -> Result<Contr, CallErr> {
+    let body = Box::new(alloc, Contr::Zero)?;
+    Ok(Contr::Scale { factor, body })
 }
 
 // The expression that a contract binds or tests.
@@ -111,23 +116,25 @@ pub fn specialised_first(
     requires day { IsNear frame }
 {
     let special = first_on(alloc, decls, c, fixings, frame)?;
-    say_same(is_same_expr(&special, first_of(wanted)?), out)
+    let wanted = first_of(wanted)?.copy(alloc)?;
+    say_sized(&scaled(alloc, special)?, &scaled(alloc, wanted)?, out)
 }
 
-// Appends what is due, and whether what is left is as wanted; or what is missing.
+// Appends what is due, and whether what is left has the size that is wanted; or what is missing.
 fn say_advanced(answer: Result<Advanced, FlowErr>, wanted: &Contr, out: &mut String) -> Answer {
     match answer {
         Ok(Advanced { due, rest }) => {
             for row in &due.rows {
                 write!(out, "| {row:?}\n")?;
             }
-            say_same(is_same(&rest, wanted), out)
+            say_sized(&rest, wanted, out)
         }
         Err(error) => say_missing(error, out),
     }
 }
 
-/// `step FILE TABLE DAY`: what it pays on a day, and whether the second one is left on the next.
+/// `step FILE TABLE DAY`: what it pays on a day, and whether what is left on the next has the size
+/// of the second one.
 pub fn stepped(
     alloc: Global,
     decls: &Decls,
@@ -147,7 +154,7 @@ pub fn stepped(
     say_advanced(step(alloc, decls, c, fixings, day), wanted, out)
 }
 
-/// `advance FILE TABLE DAYS`: what it pays on so many days, and whether the second one is left.
+/// `advance FILE TABLE DAYS`: what it pays on so many days, and whether what is left has that size.
 pub fn advanced(
     alloc: Global,
     decls: &Decls,
@@ -192,11 +199,11 @@ fn say_shared(
     requires { IsClosed (declarations _decls.now) (shared s.now.value) }
 {
     let c = unshare(alloc, s)?;
-    say_same(is_same(&c, wanted), out)
+    say_sized(&c, wanted, out)
 }
 
-/// `carry FILE TABLE DAY`: whether the second one is left of it on the day after a day on which it
-/// stands, as parts that are shared with it.
+/// `carry FILE TABLE DAY`: whether what is left of it on the day after a day on which it stands, as
+/// parts that are shared with it, has the size of the second one.
 pub fn carried(
     alloc: Global,
     decls: &Decls,
