@@ -10,7 +10,7 @@ use Rattle.in_process.specs.Taken.{TextState}
 use Rattle.in_process.specs.Ends.{edge_over}
 
 no_fault : (found : Option NamedBytes) (missing : ℕ) → IsSome (option_map (λ f. f.bytes.now) found) → option_map_or (λ f. 0) found missing ≡ 0
-no_fault None missing some = absurd some
+no_fault None missing some = absurd cc
 no_fault (Some f) missing some = refl
 
 -- no read of a lent file has failed
