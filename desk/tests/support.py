@@ -16,6 +16,7 @@ from tilugba.program import Program
 
 TOP = Path(__file__).resolve().parents[2]
 EXAMPLES = TOP / "examples"
+CASES = TOP / "tests" / "cases"
 DESK = TOP / "desk"
 
 

@@ -9,7 +9,7 @@ import subprocess
 import sys
 import unittest
 
-from tests.support import DESK, EXAMPLES, Ran, Room, run_desk, the_program
+from tests.support import CASES, DESK, Ran, Room, run_desk, the_program
 from tests.texts import CODE, SCHEDULES, edited, examples
 from tilugba.explanations.explaining import Run, notes_of
 from tilugba.explanations.notes import Note, shown
@@ -320,9 +320,9 @@ class Others(Explained):
         self.assertIn("more than 16,777,216 bytes", ran.errors)
 
     def test_what_ends_with_0_goes_through(self) -> None:
-        book = EXAMPLES / "option" / "option.txt"
-        table = EXAMPLES / "option" / "fixings.csv"
-        wanted = (EXAMPLES / "option" / "output").read_text()
+        book = CASES / "option" / "option.txt"
+        table = CASES / "option" / "fixings.csv"
+        wanted = (CASES / "option" / "output").read_text()
         self.assertEqual(run_desk("explain", "flows", book, table), Ran(0, wanted, ""))
 
     def test_a_pipe_is_read_once(self) -> None:

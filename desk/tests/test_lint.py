@@ -2,7 +2,7 @@
 
 import unittest
 
-from tests.support import EXAMPLES, Ran, Room, run_desk
+from tests.support import CASES, EXAMPLES, Ran, Room, run_desk
 
 HEAD = """portfolio 1;
 amounts 2;
@@ -81,7 +81,7 @@ class Lint(Room):
         self.assertEqual(run_desk("lint", self.folder / "none").status, 3)
 
     def test_all_example_books(self) -> None:
-        books = sorted(EXAMPLES.glob("*/book.txt"))
+        books = sorted(it for folder in (CASES, EXAMPLES) for it in folder.glob("*/book.txt"))
         self.assertGreater(len(books), 10)
         for book in books:
             ran = run_desk("lint", book)

@@ -6,7 +6,7 @@ import unittest
 from pathlib import Path
 from unittest import mock
 
-from tests.support import EXAMPLES, Room, the_program
+from tests.support import CASES, EXAMPLES, Room, the_program
 from tilugba import program
 from tilugba.program import (
     Acceptance,
@@ -174,7 +174,7 @@ class Examples(unittest.TestCase):
 
     def test_examples(self) -> None:
         run = the_program().run
-        folders = [path.parent for path in EXAMPLES.glob("*/command")]
+        folders = [path.parent for folder in (CASES, EXAMPLES) for path in folder.glob("*/command")]
         self.assertGreater(len(folders), 100)
         for folder in folders:
             words = os.fsdecode(folder.joinpath("command").read_bytes()).splitlines()

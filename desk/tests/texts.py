@@ -10,7 +10,7 @@ from dataclasses import dataclass
 from functools import cache
 from pathlib import Path
 
-from tests.support import EXAMPLES, TOP, the_program
+from tests.support import CASES, EXAMPLES, TOP, the_program
 from tilugba.texts import tokens
 from tilugba.texts.grammar import CODE, PORTFOLIO, SCHEDULES, Grammar
 from tilugba.texts.names import NameSet
@@ -76,7 +76,7 @@ class Example:
 @cache
 def examples() -> tuple[Example, ...]:
     """All texts of the examples and of the tests' cases, but for those of more than 30,000 bytes."""
-    folders = [EXAMPLES, TOP / "tests" / "cases", TOP / "desk" / "tests" / "data"]
+    folders = [EXAMPLES, CASES, TOP / "desk" / "tests" / "data"]
     paths = [path for folder in folders for path in sorted(folder.rglob("*")) if path.is_file()]
     found: dict[bytes, Example] = {}
     for path in paths:
