@@ -1,6 +1,5 @@
 //! The words of `scenarios`.
 
-ghost use Rattle.std.specs.Prelude.{option_map};
 ghost use Rattle.clap.specs.Walk.{texts};
 ghost use Rattle.command_words.specs.Arguments.{IsAnswer, given_text};
 ghost use Rattle.command_words.specs.Words.{mode_if_given, scenarios_by, scenarios_of};

@@ -11,7 +11,7 @@ ghost use Rattle.term_model.specs.Limits.{most_days};
 ghost use Rattle.time_types.specs.Starts.{start_day};
 ghost use Rattle.contract_check.specs.Checks.{IsGranted};
 ghost use Rattle.contract_check.specs.SimpleContracts.{sooner, IsEarly, IsWithin, IsMeasured};
-ghost use Rattle.contract_check.specs.SimpleContracts.{greatest_measured, most_decimals};
+ghost use Rattle.contract_check.specs.SimpleContracts.{most_decimals};
 ghost use Rattle.contract_check.specs.SimpleContracts as simple;
 
 use crate::checks::Facts;

@@ -1,6 +1,6 @@
 -- The numbers that `value` and `scenarios` ask code at are a setting: what words set is at most 100,000, and so is each template
 -- of a text.
-use Rattle.std.proofs.Common.{◌≡◌, ◌≤◌, ℕ, zero, suc, Bool, true, false, List, [], ◌∷◌, ◌++◌, Option, Some, None, codes, if◌then◌else◌, nat_le, leb-true, map, refl, subst, sym, arith}
+use Rattle.std.proofs.Common.{◌≡◌, ◌≤◌, ℕ, zero, suc, Bool, true, false, List, [], ◌∷◌, ◌++◌, Option, Some, None, codes, if◌then◌else◌, nat_le, leb-true, map, refl, subst, arith}
 use Rattle.std.specs.Prelude.{IfSome, option_and_then, option_map, unwrap_or}
 use Rattle.std.specs.List.{AllByRecursion}
 use Rattle.std.specs.Map.{keys_of, lookup}
@@ -11,16 +11,11 @@ use Rattle.clap.specs.Words.{Row, Text, all_of, first_of}
 use Rattle.decimal.specs.Reading.{digits_of, number_up_to, up_to}
 use Rattle.decimal.specs.declared.rounding.Mode.{Mode}
 use Rattle.term_model.specs.Instances.{IsSetting}
-use Rattle.contract_grammar.specs.Judgements.{integer_at}
 use Rattle.contract_grammar.specs.Names.{is_declared}
 use Rattle.contract_grammar.specs.NameTexts.{is_name_text}
-use Rattle.contract_grammar.specs.Spelling.{Repeat, none, more}
-use Rattle.contract_grammar.specs.Statements.{Entry, template_line}
-use Rattle.contract_grammar.specs.Tokens.{Tok}
-use Rattle.contract_grammar.specs.Words.{Bytes}
-use Rattle.contract_grammar.proofs.TextNumbers.{by_value, integer_within}
 use Rattle.payoff_terms.specs.CodeBooks.{CodeBook}
 use Rattle.payoff_lang.specs.CodeFiles.{CodeText}
+use Rattle.payoff_lang.proofs.TemplateDays.{templates_short}
 use Rattle.command_words.specs.Arguments.{Reading, read_rows, taken}
 use Rattle.command_words.specs.Commands.{Advance, AreSettings, Between, Check, Expand, Flows, Migrate, Novate, Payoff, Positions, Request, Sample, Scenarios, ScenariosAsked, Settle, Value, ValueAsked, ValueFiles}
 use Rattle.command_words.specs.Words.{advance_of, check_app, check_from, expand_app, expand_from, flows_app, flows_from, flows_with, migrate_app, migrate_from, netting_of, novate_of, payoff_app, payoff_from, payoff_with}
@@ -198,24 +193,6 @@ words_ask (name ∷ rest) = command_asks name rest
 words_small : (words : List Text) (request : Request) → Names words request → IsSmall request
 words_small words request named = subst AsksSmall named (words_ask words)
 
--- ---- the templates of a text
-
-days_small : (before : List (Bytes × ℕ)) (name : Bytes) (days : ℕ) (ts rest : List Tok) → template_line before name days ts rest → days ≤ 100_000
-days_small before name days ts rest x = by_value (integer_at 100_000) days _ _ _ (λ t e. integer_within 100_000 t days e) x.two.two.two.one
-
-lines_small : (before after : List (Bytes × ℕ)) (ts rest : List Tok) → Repeat (Entry template_line) before after ts rest → AreSettings before → AreSettings after
-lines_small before after ts rest none all = all
-lines_small before after ts rest (more {b = next} {between = left} x xs) all =
-    let small = days_small before x.name x.value ts left x.spelled in
-    let further = All-push (λ (entry : Bytes × ℕ). entry.1 ≤ 100_000) before (x.name, x.value) all small in
-    lines_small next after left rest xs (subst AreSettings (sym x.is) further)
-
-templates_small : (bytes : List ℕ) (b : CodeBook) → CodeText bytes b → AreSettings b.declarations.templates
-templates_small bytes b text =
-    let declared = text.spelled.two.two.two.one in
-    let lines = declared.two.two.two.two.two.two.two.two in
-    lines_small [] b.declarations.templates _ _ lines no_settings
-
 -- ---- the setting
 
 or_small : (o : Option ℕ) (n : ℕ) → IfSome o (λ m. m ≤ 100_000) → n ≤ 100_000 → unwrap_or o n ≤ 100_000
@@ -237,7 +214,7 @@ at_small (x ∷ xs) small (suc t) = at_small xs small.1 t
 
 set_by_words : (settings : List (List ℕ × ℕ)) (bytes : List ℕ) (b : CodeBook) → AreSettings settings → CodeText bytes b → IsSetting (setting_by b.declarations settings)
 set_by_words settings bytes b small text =
-    let declared = recursion_from_All (λ (entry : List ℕ × ℕ). entry.1 ≤ 100_000) b.declarations.templates (templates_small bytes b text) in
+    let declared = recursion_from_All (λ (entry : List ℕ × ℕ). entry.1 ≤ 100_000) b.declarations.templates (templates_short bytes b text) in
     at_small (setting_by b.declarations settings) (set_small settings b.declarations.templates small declared)
 
 pub setting_small : (words : List Text) (asked : ValueAsked) (bytes : List ℕ) (b : CodeBook) → Names words (Value asked) → CodeText bytes b

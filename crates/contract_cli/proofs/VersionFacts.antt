@@ -1,14 +1,11 @@
 -- What stops `flows` and `advance` of a portfolio, and what they tell of it, does so in any other version: a version has no part in it.
-use Rattle.std.proofs.Common.{◌≡◌, ◌∙◌, inl, inr, ℕ, ℤ, pos, ◌-ℤ◌, ◌+ℤ◌, ◌-◌, ◌&&◌, Bool, List, [], ◌∷◌, IsFalse, ap, refl, subst, sym}
-use Rattle.std.specs.List.{list_all}
+use Rattle.std.proofs.Common.{◌≡◌, ◌∙◌, inl, inr, ℕ, ℤ, pos, ◌-ℤ◌, ◌+ℤ◌, ◌-◌, List, [], ◌∷◌, ap, refl, sym}
 use Rattle.std.specs.Prelude.{Option, Some, None}
 use Rattle.std.proofs.lemmas.List.Elements.{All-weaker}
 use Rattle.term_model.specs.Declarations.{Declarations}
 use Rattle.term_model.specs.Environments.{Environment, Place}
-use Rattle.term_model.specs.Reads.{first_unfixed, is_fixed}
-use Rattle.term_model.specs.Redexes.{Redex, FixedSteps, frame_round, is_redex, names_within, reads_are_fixed}
-use Rattle.term_model.specs.Sites.{AllPass, Once, OfExpression, Part, Site, sites_of_contract}
-use Rattle.term_model.specs.Terms.{Acc, Contract, Expression}
+use Rattle.term_model.specs.Reads.{first_unfixed}
+use Rattle.term_model.specs.Terms.{Contract}
 use Rattle.term_model.proofs.FormedFacts.{one_form}
 use Rattle.term_model.specs.declared.name.Name.{Name}
 use Rattle.term_model.specs.declared.values.Value.{Value}
@@ -24,6 +21,7 @@ use Rattle.used_contracts.specs.AllFixed.{AreAllFixed, IsMissingOf, missing_of}
 use Rattle.flow_commands.specs.FlowsPromise.{IsLastDay}
 use Rattle.flow_eval.specs.declared.flow_table.FlowRow.{FlowRow}
 use Rattle.advance_step.specs.Advancing.{IsResidual}
+use Rattle.advance_step.proofs.ResidualFacts.{reduced_same}
 use Rattle.lifecycle_commands.specs.AdvancePromise.{AreComments, AreDueLines, AreResiduals, IsNewDay}
 use Rattle.contract_cli.proofs.MigrateFacts.{flow_line, known_flows, meaning, next, still_accepted, verdict}
 
@@ -178,26 +176,11 @@ module _ (d : Declarations) (v : ℕ) where
     is,
   )
 
-  steps_there : (fixings : Environment) (f : Option ℤ) (e : Expression) → reads_are_fixed d fixings f e ≡ reads_are_fixed (next d v) fixings f e
-  steps_there fixings None e = refl
-  steps_there fixings (Some f) e = ap (λ (places : List Place). list_all (is_fixed fixings) places) ((meaning d v).reads e [] [] fixings f)
-
-  redex_there : (fixings : Environment) (f : Option ℤ) (kind : Redex) (part : Part) → is_redex d fixings f kind part ≡ is_redex (next d v) fixings f kind part
-  redex_there fixings f FixedSteps (OfExpression (Acc body n first)) =
-      ap (λ (b : Bool). names_within 0 (Acc body n first) && b) (steps_there fixings f (Acc body n first))
-  redex_there fixings f kind part = refl
-
-  none_there : (fixings : Environment) (f : Option ℤ) (kind : Redex) (sites : List Site)
-      → AllPass (λ s. IsFalse (is_redex d fixings (frame_round f s.layers) kind s.part)) sites → AllPass (λ s. IsFalse (is_redex (next d v) fixings (frame_round f s.layers) kind s.part)) sites
-  none_there fixings f kind [] h = tt
-  none_there fixings f kind (x ∷ xs) h =
-      (subst (λ (b : Bool). IsFalse b) (redex_there fixings (frame_round f x.layers) kind x.part) h.0, none_there fixings f kind xs h.1)
-
   residual_there : (fixings : Environment) (first : ℤ) (days : ℕ) (c rest : Contract) → IsResidual d fixings first days c rest → IsResidual (next d v) fixings first days c rest
   residual_there fixings first days c rest h = record {
     accepted = (verdict d v).accepted rest h.accepted;
     carries = (verdict d v).carried c first fixings days rest h.carries;
-    reduced = λ kind. none_there fixings (Some (first +ℤ pos days)) kind (sites_of_contract Once rest [] 0) (h.reduced kind);
+    reduced = reduced_same d (next d v) (record { amounts = refl; labels = refl }) rest fixings (first +ℤ pos days) h.reduced;
     gone = h.gone;
     closed = one_form d (next d v) (record { parties = refl; assets = refl; labels = refl; templates = refl }) 0 rest h.closed;
     numbers = h.numbers;

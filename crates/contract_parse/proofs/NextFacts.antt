@@ -1,6 +1,8 @@
 -- A contract that is read next: its name, that it may be tried, and that it goes on from what has been read.
-use Rattle.std.proofs.Common.{◌≡◌, ◌≤◌, ◌∙◌, ◌∷◌, ◌++◌, ℕ, [], List, Bool, true, false, cond, Ok, Err, ap, arith, length, refl, subst, sym}
+use Rattle.std.proofs.Common.{◌≡◌, ◌≤◌, ◌∙◌, ◌∷◌, ◌++◌, ℕ, [], List, Bool, true, false, cond, Ok, Err, ap, arith, length, refl, subst, sym, take}
 use Rattle.std.specs.Prelude.{codes}
+use Rattle.std.specs.Str.{bytes_eq}
+use Rattle.indexmap.specs.IndexSet.{insert_key}
 use Rattle.std.specs.Map.{keys_of}
 use Rattle.term_model.specs.Declarations.{Declarations}
 use Rattle.term_model.specs.Sizes.{nodes_of_contract}
@@ -58,3 +60,12 @@ one_further d entries all name c ts behind now rest opens line same x =
     record { name = name; value = c; is = refl; spelled = followed_by behind opens line } in
     let here = subst (λ (l : List Tok). further_contracts d (entries ++ (name, c) ∷ []) all l []) same x in
     followed_by here.between (more first here.one) here.two
+
+-- ---- names that stay
+
+pub inserted_again : (names : List Bytes) (name : Bytes) → true ≡ is_declared names name → insert_key bytes_eq names name ≡ names
+inserted_again names name present = ap (λ b. cond b names (names ++ name ∷ [])) (sym present)
+
+pub all_before : (names others : List Bytes) → take (length names) (names ++ others) ≡ names
+all_before [] others = refl
+all_before (name ∷ names) others = ap (λ (ns : List Bytes). name ∷ ns) (all_before names others)

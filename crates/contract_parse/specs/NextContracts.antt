@@ -2,7 +2,6 @@
 use Rattle.std.specs.Prelude.{◌≡◌, ◌≤◌, ◌<◌, ◌^◌, ◌∷◌, ◌++◌, ℕ, [], List, Option, Some, None, Result, Ok, Err, false, length}
 use Rattle.std.specs.Map.{keys_of}
 use Rattle.std.specs.Str.{IsUtf8}
-use Rattle.term_model.specs.Books.{Book}
 use Rattle.term_model.specs.Declarations.{Declarations, declarations}
 use Rattle.term_model.specs.Instances.{HasSmallSums}
 use Rattle.term_model.specs.Sizes.{height_of_contract, nodes_of_contract}
@@ -17,12 +16,10 @@ use Rattle.contract_grammar.specs.Spelling.{Part, ◌⨟◌, contr, end}
 use Rattle.contract_grammar.specs.Statements.{Entry, Repeat, contract_line, portfolio}
 use Rattle.contract_parse.specs.Expecting.{Fails, expected_behind, run, text_expected}
 use Rattle.contract_parse.specs.Reading.{tokens_ahead}
-use Rattle.contract_parse.specs.TextFaults.{IsFault}
+use Rattle.contract_parse.specs.TextFaults.{Tells}
 use Rattle.contract_grammar.specs.Texts.{Text}
 use Rattle.contract_parse.specs.declared.faults.ParseErr.{ParseErr}
-use Rattle.contract_parse.specs.declared.faults.ParseErr.TheVariants as err
 use Rattle.contract_parse.specs.declared.faults.PartErr.{PartErr}
-use Rattle.contract_grammar.specs.declared.faults.TextFault.{TextFault}
 use Rattle.contract_parse.specs.declared.next_contracts.ContractReader.{ContractReader}
 use Rattle.contract_parse.specs.declared.next_contracts.NextContract.{NextContract}
 
@@ -70,18 +67,13 @@ pub record IsNext (bytes : List ℕ) (d : Declarations) (entries : List (Name ×
   pub spelled : HasTokens d (contract next.contr)
   pub new : is_declared (keys_of entries) next.name.now ≡ false
 
--- the bytes are no text, and the fault is their first
-abbrev pub IsNoText : List ℕ → TextFault → Type 0
-IsNoText bytes f = IsFault bytes f × ((b : Book) → Text bytes b → ⊥)
-
 abbrev pub AnswersNext :
     List ℕ → Declarations → List (Name × Contract) → ContractReader
     → Result (Option NextContract) ParseErr → Type 0
 AnswersNext bytes d entries after (Ok (Some next)) = IsNext bytes d entries after next
 AnswersNext bytes d entries after (Ok None) =
     Text bytes (record { declarations = d; contracts = entries })
-AnswersNext bytes d entries after (Err (err.Text f)) = IsNoText bytes f
-AnswersNext bytes d entries after (Err err.NoMemory) = Unit {0}
+AnswersNext bytes d entries after (Err e) = Tells bytes e
 
 -- the same while a fault has no line and no column
 abbrev pub ReadsNext :
@@ -105,10 +97,25 @@ ReadsOn d before after result =
     (bytes : List ℕ) (entries : List (Name × Contract)) → IsReadTo bytes d entries before
     → ReadsNext bytes d entries after result
 
+-- the reader stands where it stood
+pub record IsUnmoved (before after : ContractReader) : Type 0 where
+  pub text : after.text ≡ before.text
+  pub names : after.names.keys ≡ before.names.keys
+  pub ahead : after.ahead ≡ before.ahead
+
 abbrev pub StartsContracts : List ℕ → Result (Decls × ContractReader) ParseErr → Type 0
 StartsContracts bytes (Ok start) = IsReadTo bytes (declarations start.0) [] start.1
-StartsContracts bytes (Err (err.Text f)) = IsNoText bytes f
-StartsContracts bytes (Err err.NoMemory) = Unit {0}
+StartsContracts bytes (Err e) = Tells bytes e
+
+-- these are the contracts of whichever text has none before them
+abbrev pub HasContracts : Declarations → ContractReader → List (Name × Contract) → Type 0
+HasContracts d start all =
+    (bytes : List ℕ) → IsReadTo bytes d [] start
+    → Text bytes (record { declarations = d; contracts = all })
+
+-- whichever text has contracts that go on so is refused
+abbrev pub Refuses : Declarations → ContractReader → ParseErr → Type 0
+Refuses d start e = (bytes : List ℕ) → IsReadTo bytes d [] start → Tells bytes e
 
 -- how many bytes of the text are not yet read
 abbrev pub bytes_left : ContractReader → ℕ

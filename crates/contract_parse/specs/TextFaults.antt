@@ -36,8 +36,16 @@ FirstFault bytes kind at = FirstTextFault Language.Contracts bytes kind at
 abbrev pub IsFault : List ℕ → TextFault → Type 0
 IsFault bytes f = IsTextFault Language.Contracts bytes f
 
+-- the bytes are no text, and the fault is their first
+abbrev pub IsNoText : List ℕ → TextFault → Type 0
+IsNoText bytes f = IsFault bytes f × ((b : Book) → Text bytes b → ⊥)
+
+-- what a reader tells that stops
+abbrev pub Tells : List ℕ → ParseErr → Type 0
+Tells bytes (err.Text f) = IsNoText bytes f
+Tells bytes err.NoMemory = Unit {0}
+
 -- the portfolio of the text, or, just where the bytes are no text, their first fault
 abbrev pub Answers : List ℕ → Result Portfolio ParseErr → Type 0
 Answers bytes (Ok p) = Text bytes (book p)
-Answers bytes (Err (err.Text f)) = IsFault bytes f × ((b : Book) → Text bytes b → ⊥)
-Answers bytes (Err err.NoMemory) = Unit {0}
+Answers bytes (Err e) = Tells bytes e

@@ -1,18 +1,15 @@
 //! Expressions from texts.
-ghost use Rattle.std.specs.Prelude.{◌≡◌, ◌≤◌, ◌<◌, ◌+◌, ◌∷◌, [], ℕ, List, IfOk, OnOk, codes, length, max, true};
+ghost use Rattle.std.specs.Prelude.{◌≡◌, ◌≤◌, ◌<◌, ◌+◌, ◌∷◌, IfOk, OnOk, codes, length, max, true};
 ghost use Rattle.term_model.specs.Limits.{most_days};
 ghost use Rattle.term_model.specs.Terms.{Lit, expression};
 ghost use Rattle.term_model.specs.Sizes.{height};
-ghost use Rattle.contract_grammar.specs.Words.{Bytes};
-ghost use Rattle.contract_grammar.specs.Names.{DeclaredNames};
 ghost use Rattle.contract_parse.specs.Frames.{PassesAt, an_expression_here, expression_at, names_at, expected_behind_first};
 ghost use Rattle.contract_grammar.specs.Judgements.{binder_at, integer_at, mode_at};
 ghost use Rattle.contract_grammar.specs.Spelling.{expr, mark, pair, valued, ◌⨟◌};
-ghost use Rattle.contract_parse.specs.Expecting.{BinderAt, IntegerAt, LiteralNumber, ModeAt, TheMark, binder_expected, operand_expected, pair_expected};
+ghost use Rattle.contract_parse.specs.Expecting.{IntegerAt, LiteralNumber, ModeAt, TheMark, operand_expected, pair_expected};
 ghost use Rattle.contract_parse.specs.Reading.{joined};
 ghost use Rattle.contract_parse.specs.Heads.{greatest_depth};
 ghost use Rattle.contract_parse.specs.Readers.{Binds, KeepsLeaves, PassesAnywhere, Reads, behind_part, behind_sign, behind_word, first_token};
-ghost use Rattle.contract_parse.specs.declared.heads.Binder.{Binder};
 
 use crate::faults::PartErr;
 use crate::frame::Frame;

@@ -12,7 +12,7 @@ use crate::token::Lexeme;
 use crate::words::{is_name, is_number, is_the_mark, is_the_word};
 use contract_grammar::{Language, LexemeKind, TextKind};
 use decimal::Decimal;
-use term_model::{CmpOp, LogicOp, MOST_HEIGHT, MOST_HEIGHT_OF_CODE, NumOp, Scope};
+use term_model::{MOST_HEIGHT, MOST_HEIGHT_OF_CODE, Scope};
 
 /// What an expression begins with.
 #[derive(Clone, Copy)]

@@ -5,7 +5,6 @@ ghost use Rattle.term_model.specs.Limits.{are_labels, is_label};
 ghost use Rattle.contract_grammar.specs.Statements.{Entry, Repeat, label_line};
 ghost use Rattle.contract_parse.specs.DeclarationReading.{label_range};
 ghost use Rattle.contract_parse.specs.Expecting.{LabelLines, ScaleAt, TheMark, flag_expected, number_label_expected};
-ghost use Rattle.contract_parse.specs.Reading.{tokens_ahead};
 ghost use Rattle.contract_parse.specs.Readers.{Declares, PassesAnywhere, Reads, ReadsAhead, ahead_from, behind_word};
 ghost use Rattle.contract_grammar.specs.declared.names.NameSet.TheVariants.{Label as LabelSet};
 

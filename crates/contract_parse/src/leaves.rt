@@ -1,5 +1,5 @@
 //! How the observables of a language are read.
-ghost use Rattle.std.specs.Prelude.{◌≡◌, ◌∷◌, IfOk, OnOk};
+ghost use Rattle.std.specs.Prelude.{◌≡◌, IfOk, OnOk};
 ghost use Rattle.term_model.specs.Terms.{expression};
 ghost use Rattle.term_model.specs.Sizes.{height};
 ghost use Rattle.contract_grammar.specs.Names.{DeclaredNames};

@@ -40,8 +40,9 @@ mod words;
 pub use contract_grammar::{TextFault, TextKind, is_name_text};
 pub use cursor::{Cursor, next_token, parse_decls, start_text};
 pub use faults::ParseErr;
-pub use next_contracts::{ContractReader, NextContract, next_contract, start_contracts};
-pub use portfolio::parse_portfolio;
+pub use next_contracts::{
+    ContractReader, NextContract, next_contract, parse_portfolio, start_contracts,
+};
 pub use tokens::{Token, TokenKind};
 
 // What another grammar over the same tokens and expressions is read with.

@@ -49,6 +49,7 @@ fn after_space(bytes: &[u8]) -> &[u8]
 
 /// The bytes after the blanks and the comments. Most gaps are a space or nothing, so that is looked
 /// at first.
+#[inline(always)]
 pub fn after_gap(bytes: &[u8]) -> &[u8]
     ensures rest { result.now ≡ after_gap false bytes.now }
     ensures within { length result.now ≤ length bytes.now }
@@ -61,6 +62,7 @@ pub fn after_gap(bytes: &[u8]) -> &[u8]
 }
 
 // The bytes after any blanks and comments.
+#[inline(never)]
 fn after_any_gap(bytes: &[u8]) -> &[u8]
     ensures rest { result.now ≡ after_gap false bytes.now }
     ensures within { length result.now ≤ length bytes.now }
@@ -218,6 +220,7 @@ fn digits_extent(bytes: &[u8]) -> Extent
     }
 }
 
+#[inline(never)]
 #[tactic(auto, unfolding(contract_grammar::specs::Tokens::extent_at))]
 fn extent_at(bytes: &[u8]) -> Extent
     ensures value { result ≡ extent_at bytes.now }
@@ -235,6 +238,7 @@ fn extent_at(bytes: &[u8]) -> Extent
 }
 
 /// The next token, and the bytes after it.
+#[inline(always)]
 #[tactic(auto, unfolding(contract_grammar::specs::Tokens::next_lexeme))]
 pub fn next_lexeme(bytes: &[u8]) -> (Lexeme<'_>, &[u8])
     ensures { (

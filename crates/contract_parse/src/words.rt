@@ -1,13 +1,11 @@
 //! What a token is to the grammar.
 ghost use Rattle.std.specs.Prelude.{◌≡◌, ◌≤◌, ◌<◌, ◌∷◌, ◌==◌, IfSome, false, length, not, true};
-ghost use Rattle.std.specs.List.{list_all, list_any};
+ghost use Rattle.std.specs.List.{list_all};
 ghost use Rattle.std.specs.Str.{bytes_eq};
 ghost use Rattle.contract_grammar.specs.Tokens.{is_last, tokens};
 ghost use Rattle.contract_grammar.specs.Words.{is_date, is_end, is_integer, is_name, is_number};
 ghost use Rattle.contract_grammar.specs.Words.{is_reserved, is_the_mark, is_the_word};
-ghost use Rattle.contract_grammar.specs.Words.{is_whole_mark, reserved_of_five, reserved_of_four};
-ghost use Rattle.contract_grammar.specs.Words.{reserved_of_more, reserved_of_three};
-ghost use Rattle.contract_grammar.specs.Words.{reserved_of_two};
+ghost use Rattle.contract_grammar.specs.Words.{is_whole_mark};
 ghost use Rattle.contract_parse.specs.Reading.{LacksMark, tok_of, tokens_after, tokens_ahead};
 
 use crate::token::{Lexeme, next_lexeme};
@@ -21,6 +19,7 @@ pub struct Lookahead<'a> {
 }
 
 /// The next token of a text, and the text after it.
+#[inline(always)]
 pub fn next(rest: &[u8]) -> (Lexeme<'_>, &[u8])
     ensures starts { tokens rest.now ≡ tok_of result.0 ∷ tokens_after result.0.kind result.1.now }
     ensures shorter { is_last result.0.kind ≡ false → length result.1.now < length rest.now }

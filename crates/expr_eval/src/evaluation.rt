@@ -1,6 +1,6 @@
 //! The evaluator: values with their kinds, or the first place that is not fixed.
 
-ghost use Rattle.std.specs.Prelude.{◌≡◌, ◌+◌, ◌+ℤ◌, ◌-ℤ◌, pos, slice_get, IsTrue};
+ghost use Rattle.std.specs.Prelude.{◌≡◌, ◌+◌, slice_get, IsTrue};
 ghost use Rattle.term_model.specs.Declarations.{declarations};
 ghost use Rattle.term_model.specs.Terms.{expression};
 ghost use Rattle.term_model.specs.Environments.{held};

@@ -1,7 +1,7 @@
 //! Tests over many days whose parts are observed: each part is looked up once, and then goes
 //! through the days of its label.
 
-ghost use Rattle.std.specs.Prelude.{◌≡◌, ◌≤◌, ◌^◌, ◌+ℤ◌, ◌*ℤ◌, unsigned_abs, IfSome};
+ghost use Rattle.std.specs.Prelude.{◌≡◌, ◌*ℤ◌, IfSome};
 ghost use Rattle.term_model.specs.Terms.{expression};
 ghost use Rattle.expr_eval.specs.Bindings.{bindings};
 ghost use Rattle.expr_eval.specs.Evaluations.{comparison_over, logic_over};

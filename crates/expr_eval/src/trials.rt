@@ -3,11 +3,11 @@
 ghost use Rattle.std.specs.Prelude.{◌≡◌, ◌≤◌, ◌^◌, unsigned_abs, IfOk};
 ghost use Rattle.term_model.specs.Declarations.{declarations};
 ghost use Rattle.term_model.specs.Terms.{expression};
-ghost use Rattle.term_model.specs.Environments.{IsAdmitted, held};
+ghost use Rattle.term_model.specs.Environments.{IsAdmitted};
 ghost use Rattle.expr_eval.specs.Fits.{IsDay};
 ghost use Rattle.expr_eval.specs.Evaluable.{MayEvaluate};
 ghost use Rattle.expr_eval.specs.Evaluations.{ComparesIn, FitsIn, answer_in, comparison, first_in, kinds_in};
-ghost use Rattle.expr_eval.specs.Comparing.{factors_found, mantissa_held, number_found, truth_found, OnDays, SidesFit};
+ghost use Rattle.expr_eval.specs.Comparing.{factors_found, number_found, truth_found, OnDays, SidesFit};
 ghost use Rattle.expr_eval.specs.Trials.{IsFirstTrue, IsOneOf};
 
 use crate::bindings::Bindings;

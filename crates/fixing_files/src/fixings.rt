@@ -1,6 +1,6 @@
 //! Fixings: values by places.
 
-ghost use Rattle.std.specs.Prelude.{◌≡◌, ◌<◌, ◌^◌, ℕ, [], OnErr, OnOk, vec_len};
+ghost use Rattle.std.specs.Prelude.{◌≡◌, ◌<◌, ℕ, [], OnErr, OnOk, vec_len};
 ghost use Rattle.term_model.specs.Declarations.{declarations};
 ghost use Rattle.term_model.specs.Environments.{IsAdmitted, IsValueOf, held, label_of};
 ghost use Rattle.fixing_files.specs.Blocks.{AreBlocks};

@@ -24,7 +24,7 @@ mod walk;
 pub use faults::FlowErr;
 pub use flow_table::{FlowRow, FlowTable, Slot};
 pub use laws::{one_answer, one_table};
-pub use netting::netted;
+pub use netting::{net_payments, netted};
 pub use payments::{Payment, Transfer, payment_on};
 pub use shared_tables::flows_shared;
 pub use tables::{LAST_DAY, flows, flows_on};

@@ -97,25 +97,35 @@ fn rows_of(alloc: Global, payments: &[Payment]) -> Result<Vec<FlowRow>, NoMemory
     Ok(rows)
 }
 
-// The same payments, in order of their slots.
-fn sorted(payments: Vec<Payment>) -> Result<Vec<Payment>, NoMemory>
-    ensures moved { IfOk result (λ sorted. IsPermutation payments.items sorted.items) }
-    ensures in_order { IfOk result (λ sorted. AreInOrder sorted.items) }
+// Puts payments in order of their slots.
+fn sort(payments: &mut Vec<Payment>) -> Result<(), NoMemory>
+    ensures moved { IsPermutation payments.old.items payments.new.items }
+    ensures in_order { OnOk result (AreInOrder payments.new.items) }
 {
     if payments.len() < 2 {
-        return Ok(payments);
+        return Ok(());
     }
-    let mut payments = payments;
     payments.sort_by_key(|payment| payment.slot)?;
-    Ok(payments)
+    Ok(())
 }
 
-/// The flow table of payments: a row for each slot at which they do not come to 0, by one sort.
+/// The flow table of payments: a row for each slot at which they do not come to 0, by one sort. It
+/// leaves the same payments in another order, and does so where memory runs out.
+pub fn net_payments(alloc: Global, payments: &mut Vec<Payment>) -> Result<FlowTable, NoMemory>
+    requires { CanBeNetted payments.old.items }
+    ensures nets { IfOk result (λ table. Nets payments.old.items table.rows.items) }
+    ensures moved { IsPermutation payments.old.items payments.new.items }
+{
+    sort(payments)?;
+    let rows = rows_of(alloc, payments)?;
+    Ok(FlowTable { rows })
+}
+
+/// The same of payments that are of no use afterwards.
 pub fn netted(alloc: Global, payments: Vec<Payment>) -> Result<FlowTable, NoMemory>
     requires { CanBeNetted payments.items }
     ensures { IfOk result (λ table. Nets payments.items table.rows.items) }
 {
-    let payments = sorted(payments)?;
-    let rows = rows_of(alloc, &payments)?;
-    Ok(FlowTable { rows })
+    let mut payments = payments;
+    net_payments(alloc, &mut payments)
 }

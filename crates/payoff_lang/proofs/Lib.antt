@@ -16,5 +16,6 @@ pub mod CodeClosed
 pub mod CodeNumbers
 pub mod CodeWeights
 pub mod OneCode
+pub mod TemplateDays
 mod RowsTexts
 mod RowsReading

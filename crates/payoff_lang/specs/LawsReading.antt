@@ -1,6 +1,7 @@
 -- The laws of the texts of code files: a text has no fault, and it stands for one file, whose code is closed and no larger
 -- than the text.
 use Rattle.std.specs.Prelude.{◌≡◌, ◌≤◌, ◌<◌, List, ℕ, [], length}
+use Rattle.std.specs.List.{All}
 use Rattle.std.specs.Str.{IsUtf8}
 use Rattle.contract_grammar.specs.Tokens.{tokens}
 use Rattle.contract_grammar.specs.Names.{nothing_declared}
@@ -49,3 +50,7 @@ CodeFitsText = (bytes : List ℕ) (b : CodeBook) → CodeText bytes b → nodes_
 
 abbrev pub NamesOfCodeFitText : Type 0
 NamesOfCodeFitText = (bytes : List ℕ) (b : CodeBook) → CodeText bytes b → NamesFit bytes b.declarations
+
+-- no template of a text has more than 100,000 days
+abbrev pub TemplatesOfCodeAreShort : Type 0
+TemplatesOfCodeAreShort = (bytes : List ℕ) (b : CodeBook) → CodeText bytes b → All (λ entry. entry.1 ≤ 100_000) b.declarations.templates

@@ -1,7 +1,7 @@
 //! Laws of the texts of payoff code. Each is the contract of a function that does nothing; a
 //! caller takes the law by calling it.
 
-ghost use Rattle.payoff_lang.specs.LawsReading.{CodeFaultsEndFronts, CodeFitsText, CodeOfTextIsClosed, CodeOfTextIsPrintable, CodeTextHasNoFault, CodeTextIsTaken, CodeTextsAreWhole, NamesOfCodeFitText, OneCodeReading};
+ghost use Rattle.payoff_lang.specs.LawsReading.{CodeFaultsEndFronts, CodeFitsText, CodeOfTextIsClosed, CodeOfTextIsPrintable, CodeTextHasNoFault, CodeTextIsTaken, CodeTextsAreWhole, NamesOfCodeFitText, OneCodeReading, TemplatesOfCodeAreShort};
 ghost use Rattle.payoff_lang.specs.LawsTexts.{CodeCanonExists, CodeCanonIsText, CodeIsSpelled, OneCanonOfCode, ValuesAreWrittenAsExpressions};
 
 /// The laws of what code is, is worth and means.
@@ -82,4 +82,9 @@ pub fn code_fits_text()
 /// has bytes.
 pub fn names_of_code_fit_text()
     ensures { NamesOfCodeFitText }
+{}
+
+/// The templates that the text of a code file declares have at most 100,000 days.
+pub fn templates_of_code_are_short()
+    ensures { TemplatesOfCodeAreShort }
 {}

@@ -2,7 +2,7 @@
 use Rattle.std.proofs.Common.{◌≡◌, ◌∙◌, ◌≤◌, ◌<◌, ◌^◌, ◌+◌, ◌+ℤ◌, ◌&&◌, ℕ, ℤ, pos, neg_ℤ, Bool, true, false, if◌then◌else◌, min, max, nat_lt, int_lt, map}
 use Rattle.std.proofs.Common.{List, [], ◌∷◌, ◌++◌, append_assoc, ◌≤ℤ◌, refl, ap, ap₂, sym, subst, arith, unsigned_abs}
 use Rattle.std.proofs.Math.IntN.{+ℤ_assoc, neg_ℤ-neg_ℤ}
-use Rattle.std.specs.Prelude.{IfOk, Result, Ok, Err}
+use Rattle.std.specs.Prelude.{IfOk, OnErr, Result, Ok, Err}
 use Rattle.std.specs.List.{All, sum_by}
 use Rattle.std.specs.List.Sorted.{IsPermutation}
 use Rattle.std.specs.Ordering.{int_eq}
@@ -24,7 +24,7 @@ use Rattle.flow_eval.proofs.PaymentFacts.{Counts}
 use Rattle.flow_eval.proofs.SizeFacts.{fits_first, fits_moved, fits_next, fits_rest}
 use Rattle.flow_eval.proofs.SlotFacts.{same_from_parts, same_slot_decides}
 use Rattle.flow_eval.proofs.SumFacts as slots
-use Rattle.report.specs.RunningSums.{AreNetOf, ComeTo, IsSumSoFar, IsSumOfFew, StandsAmong, TellsSum, added_at, size_at, sum_at}
+use Rattle.report.specs.RunningSums.{AreNetOf, ComeTo, IsSumSoFar, IsSumOfFew, KeepsSum, StandsAmong, TellsSum, added_at, size_at, sum_at}
 use Rattle.report.specs.SumTables.{IsSummable, IsSumOf, payment_of, payments_of, together}
 use Rattle.report.specs.declared.sums.FlowSum.{FlowSum}
 use Rattle.report.proofs.ListSums.{sum_append, sum_moved, zero_and}
@@ -370,6 +370,22 @@ netted_keeps rows before after nets are tables h = record {
   summable = h.summable;
   come = subst (λ (ps : List Payment). ComeTo (payments_of tables) ps) (sym are) (come_told tables before rows h nets);
 }
+
+pub reordered_keeps : (before after : FlowSum) → IsPermutation before.payments.items after.payments.items → KeepsSum before after
+reordered_keeps before after moved = λ tables h. record {
+  summable = h.summable;
+  come = come_then (payments_of tables) before.payments.items after.payments.items h.come (come_moved before.payments.items after.payments.items moved);
+}
+
+pub same_keeps : (before after : FlowSum) → after.payments.items ≡ before.payments.items → KeepsSum before after
+same_keeps before after same = λ tables h. record {
+  summable = h.summable;
+  come = subst (λ (ps : List Payment). ComeTo (payments_of tables) ps) (sym same) h.come;
+}
+
+pub if_refused : {A E : Type 0} (r : Result A E) (P : Type 0) → P → OnErr r P
+if_refused (Ok a) P p = tt
+if_refused (Err e) P p = p
 
 pub sum_fits : (sum : FlowSum) → IsSumOfFew sum → CanBeNetted sum.payments.items
 sum_fits sum h =

@@ -1,6 +1,6 @@
 //! The sum of flow tables.
 
-ghost use Rattle.std.specs.Prelude.{◌≡◌, ◌≤◌, ◌++◌, [], length, map, true, IfOk, OnOk};
+ghost use Rattle.std.specs.Prelude.{◌≡◌, ◌≤◌, ◌++◌, [], length, map, true, IfOk, OnErr, OnOk};
 ghost use Rattle.std.specs.List.{All};
 ghost use Rattle.term_model.specs.Limits.{longest_file};
 ghost use Rattle.flow_eval.specs.Netting.{CanBeNetted};
@@ -9,9 +9,8 @@ ghost use Rattle.report.specs.RunningSums.{AddsTable, IsSumOfFew, IsSumSoFar, Ke
 ghost use Rattle.report.specs.SumTables.{AreSummable, IsSummable, IsSumOf, payment_of};
 
 use decimal::NoMemory;
-use flow_eval::{FlowRow, FlowTable, Payment, Slot, netted};
+use flow_eval::{FlowRow, FlowTable, Payment, Slot, net_payments, netted};
 use std::alloc::Global;
-use std::mem;
 
 // Fewer payments are not worth a sort.
 const LEAST_DUE: usize = 1024;
@@ -57,13 +56,18 @@ fn payment_of(row: &FlowRow) -> Payment
     }
 }
 
-// Appends the payments of rows.
+// Appends the payments of all rows, or none.
 fn append_payments(out: &mut Vec<Payment>, rows: &[FlowRow]) -> Result<(), NoMemory>
     requires { All (λ row. FitsLine row.amount) rows.now }
-    ensures { OnOk result (out.new.items ≡ out.old.items ++ map payment_of rows.now) }
+    ensures ok { OnOk result (out.new.items ≡ out.old.items ++ map payment_of rows.now) }
+    ensures err { OnErr result (out.new.items ≡ out.old.items) }
 {
+    let before = out.len();
     for row in rows {
-        out.push(payment_of(row))?;
+        if let Err(full) = out.push(payment_of(row)) {
+            out.truncate(before);
+            return Err(full.into());
+        }
     }
     Ok(())
 }
@@ -96,24 +100,34 @@ impl FlowSum {
     // Nets the payments.
     fn net(&mut self, alloc: Global) -> Result<(), NoMemory>
         requires { CanBeNetted self.old.payments.items }
-        ensures { OnOk result (KeepsSum self.old self.new) }
+        ensures { KeepsSum self.old self.new }
     {
-        let payments = mem::replace(&mut self.payments, Vec::new(alloc));
-        let table = netted(alloc, payments)?;
-        append_payments(&mut self.payments, &table.rows)?;
-        self.due = self.payments.len().saturating_mul(2).max(LEAST_DUE);
+        let table = net_payments(alloc, &mut self.payments)?;
+        let mut payments = Vec::with_capacity(alloc, table.rows.len())?;
+        append_payments(&mut payments, &table.rows)?;
+        self.due = payments.len().saturating_mul(2).max(LEAST_DUE);
+        self.payments = payments;
         Ok(())
     }
 
-    /// Adds a table.
+    // Nets the payments if they are due, and no sum of them overflows.
+    fn net_if_due(&mut self, alloc: Global) -> Result<(), NoMemory>
+        ensures { KeepsSum self.old self.new }
+    {
+        if self.payments.len() < self.due || !can_be_netted(&self.payments) {
+            return Ok(());
+        }
+        self.net(alloc)
+    }
+
+    /// Adds a table. Where memory runs out, it is the sum that it was.
     pub fn add(&mut self, alloc: Global, table: &FlowTable) -> Result<(), NoMemory>
         requires { IsSummable table.now.rows.items }
-        ensures { OnOk result (AddsTable table.now self.old self.new) }
+        ensures ok { OnOk result (AddsTable table.now self.old self.new) }
+        ensures err { OnErr result (KeepsSum self.old self.new) }
     {
+        self.net_if_due(alloc)?;
         append_payments(&mut self.payments, &table.rows)?;
-        if self.due <= self.payments.len() && can_be_netted(&self.payments) {
-            self.net(alloc)?;
-        }
         Ok(())
     }
 

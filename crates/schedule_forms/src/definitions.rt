@@ -1,14 +1,13 @@
 //! Plans behind their names.
-ghost use Rattle.std.specs.Prelude.{◌≡◌, ◌≤◌, ◌<◌, ◌+◌, ◌-◌, ◌*◌, ◌^◌, ◌∷◌, [], IfOk, codes};
+ghost use Rattle.std.specs.Prelude.{◌≡◌, ◌≤◌, ◌<◌, ◌-◌, ◌^◌, ◌∷◌, IfOk, codes};
 ghost use Rattle.indexmap.specs.IndexMap.{index_map_len, keys};
 ghost use Rattle.indexmap.specs.IndexSet.{index_set_len};
 ghost use Rattle.term_model.specs.Limits.{greatest_offset, most_days};
 ghost use Rattle.term_model.specs.Declarations.{declarations};
 ghost use Rattle.contract_parse.specs.Expecting.{IntegerAt, ModeAt, UseOf};
-ghost use Rattle.contract_grammar.specs.Spelling.{◌⨟◌, word};
 ghost use Rattle.contract_parse.specs.Readers.{Reads, behind_word};
 ghost use Rattle.schedule_forms.specs.PlanSpelling.{cover_part, days_part, definition_part, every_part, first_part, flag_part, head_of, leg_part, named_by, notional_part, observed_part, rounding_part, route_part, size_part, times_part};
-ghost use Rattle.schedule_forms.specs.PlanExpecting.{DecimalAt, EveryAt, FirstAt, FlagAt, NumberLabelAt, SizeAt, TimesAt, Token, definition_expected, fixing_expected, guard_expected, leg_expected, route_expected, the_mark, the_word};
+ghost use Rattle.schedule_forms.specs.PlanExpecting.{DecimalAt, EveryAt, FirstAt, FlagAt, NumberLabelAt, SizeAt, TimesAt, Token, definition_expected, fixing_expected, leg_expected, route_expected, the_mark, the_word};
 ghost use Rattle.schedule_forms.specs.PlanReading.{LeadsPlan, PassesPlan};
 
 use crate::heads::PlanHead;

@@ -1,6 +1,5 @@
 //! Lines of plans.
-ghost use Rattle.std.specs.Prelude.{◌≡◌, ◌≤◌, ◌<◌, ◌∷◌, ◌++◌, [], IfOk, OnOk, codes, length};
-ghost use Rattle.std.specs.List.{All};
+ghost use Rattle.std.specs.Prelude.{◌≡◌, ◌<◌, ◌∷◌, ◌++◌, [], IfOk, codes, length};
 ghost use Rattle.indexmap.specs.IndexMap.{keys};
 ghost use Rattle.term_model.specs.Declarations.{declarations};
 ghost use Rattle.contract_grammar.specs.Judgements.{new_at};

@@ -1,5 +1,5 @@
 //! Readers of one token of plans, or of a sign and a number.
-ghost use Rattle.std.specs.Prelude.{◌≤◌, ◌<◌, ◌+◌, ◌-◌, ◌*◌, ◌^◌, ◌∷◌, IfOk, codes, length, true};
+ghost use Rattle.std.specs.Prelude.{◌≤◌, ◌<◌, ◌-◌, ◌^◌, ◌∷◌, IfOk, codes, length, true};
 ghost use Rattle.indexmap.specs.IndexMap.{index_map_len, keys};
 ghost use Rattle.indexmap.specs.IndexSet.{index_set_len};
 ghost use Rattle.term_model.specs.Limits.{most_days};

@@ -6,8 +6,8 @@
 //! ```
 //!
 //! Promised: the program ends with the number of a status that `contract_cli::run` may have of the
-//! words that are passed on (`EndsWithStatus`). Neither proved nor tested: that these are the words
-//! that were typed.
+//! words that are passed on (`EndsWithStatus`). Only tested: that these are the words that were
+//! typed, one that is empty and two that are equal among them.
 #![tactic(auto)]
 
 ghost use Rattle.std.specs.Prelude.{◌≡◌, map, string_bytes, IfOk};

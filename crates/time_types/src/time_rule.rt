@@ -8,7 +8,7 @@ ghost use Rattle.std.specs.Prelude.{slice_get};
 ghost use Rattle.term_model.specs.Declarations.{declarations};
 ghost use Rattle.term_model.specs.declared.rules.Rule.{Rule};
 ghost use Rattle.term_model.specs.Terms.{expression, contract};
-ghost use Rattle.term_model.specs.Sizes.{nodes, height, nodes_of_contract, height_of_contract};
+ghost use Rattle.term_model.specs.Sizes.{height, nodes_of_contract, height_of_contract};
 ghost use Rattle.term_model.specs.Times.{IsStart};
 ghost use Rattle.term_model.specs.WellFormed.{IsClosed, HasOnlyNumbers};
 ghost use Rattle.term_model.specs.Acceptance.{Meets};

@@ -6,7 +6,7 @@ use Rattle.term_model.specs.Books.{Book}
 use Rattle.term_model.specs.Declarations.{Declarations}
 use Rattle.term_model.specs.Environments.{Environment, Place}
 use Rattle.term_model.specs.Terms.{Contract}
-use Rattle.contract_parse.specs.NextContracts.{IsNoText}
+use Rattle.contract_parse.specs.TextFaults.{IsNoText}
 use Rattle.contract_grammar.specs.declared.faults.TextFault.{TextFault}
 use Rattle.contract_grammar.specs.declared.terms.Language.{Language}
 use Rattle.report.specs.declared.fault_lines.Fault.TheVariants as fault

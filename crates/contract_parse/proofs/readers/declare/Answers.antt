@@ -2,6 +2,7 @@ use Rattle.std.proofs.Common.{◌∙◌, List, Ok, refl, sym, ap, rules}
 use Rattle.contract_grammar.specs.Judgements.{new_at}
 use Rattle.contract_parse.specs.Expecting.{run}
 use Rattle.contract_parse.specs.Reading.{tok_of}
+use Rattle.contract_parse.proofs.NextFacts.{inserted_again}
 use Rattle.contract_parse.proofs.Passing.{stopped}
 use Rattle.contract_parse.proofs.Steps.{new_passes, new_refuses, spells}
 use Rattle.contract_grammar.proofs.NameFacts.{inserted, is_new, is_old, new_fresh, new_none, new_twice}
@@ -23,3 +24,9 @@ returns-then-branch-clause-reads c = record {
 
 pub returns-else-branch-clause-reads : goal.returns-else-branch-clause-reads
 returns-else-branch-clause-reads c = stopped (λ set s ps. rw c.refuse-else-branch.ensures (new_refuses set c.args.names.now.keys s ps (tok_of c.next.result.0) c.args.rest.now c.next.result.1.now c.next.ensures.starts Twice (new_twice c.args.names.now.keys (tok_of c.next.result.0) c.if-not-is_name.ensures ((is_old (is_declared c.args.names.now.keys c.in_ok-name.name) (sym c.if-branch.false ∙ c.in_ok-insert.ensures.added)) ∙ ap (is_declared c.args.names.now.keys) c.in_ok-name.ensures))))
+
+pub returns-else-branch-clause-kept : goal.returns-else-branch-clause-kept
+returns-else-branch-clause-kept c =
+    let names = c.args.names.now.keys in
+    let present = is_old (is_declared names c.in_ok-name.name) (sym c.if-branch.false ∙ c.in_ok-insert.ensures.added) in
+    c.in_ok-insert.ensures.keys ∙ inserted_again names c.in_ok-name.name present

@@ -14,8 +14,8 @@ use Rattle.contract_grammar.specs.Writable.{IsWritableTerm}
 use Rattle.contract_print.proofs.portfolio.append_contracts.Goals as goal
 use Rattle.contract_grammar.specs.ContractReading.{trees}
 
-pub print_contract-requires : goal.print_contract-requires
-print_contract-requires c =
+pub append_contract-requires : goal.append_contract-requires
+append_contract-requires c =
     let left = rest_more deref_pair c.loop-name.name-iterator c.next.new.self c.next.result (c.in-Some.name, c.in-Some.contr) c.in-Some.is c.next.ensures.steps in
     let all = subst (λ (xs : List (Name × Contr)). All (λ (entry : Name × Contract). IsWritableTerm entry.1) (trees xs)) left c.loop-name.invariant.writable in
     All-head (λ (entry : Name × Contract). IsWritableTerm entry.1) (c.in-Some.name.now, contract c.in-Some.contr.now) (trees c.next.new.self) all
@@ -27,6 +27,6 @@ loop-name-preserved c =
     let all = subst (λ (xs : List (Name × Contr)). All (λ (entry : Name × Contract). IsWritableTerm entry.1) (trees xs)) left c.loop-name.invariant.writable in
     let next : Name × Contract = (c.in-Some.name.now, contract c.in-Some.contr.now) in
     record {
-      lines = lines_on (λ (entry : Name × Contract). contract_text (declared_by d []) entry.0 entry.1) (trees c.loop-name.name-iterator) (trees c.next.new.self) next c.loop-name.out.items c.print_contract.new.out.items _ (ap trees left) (rw c.text.ensures at c.in_ok-print_contract.ensures) c.loop-name.invariant.lines;
+      lines = lines_on (λ (entry : Name × Contract). contract_text (declared_by d []) entry.0 entry.1) (trees c.loop-name.name-iterator) (trees c.next.new.self) next c.loop-name.out.items c.append_contract.new.out.items _ (ap trees left) (rw c.text.ensures at c.in_ok-append_contract.ensures) c.loop-name.invariant.lines;
       writable = All-tail (λ (entry : Name × Contract). IsWritableTerm entry.1) next (trees c.next.new.self) all;
     }

@@ -12,7 +12,7 @@ loop-table-preserved c =
     let table = c.table-item.result in
     let h : i < length tables = omega arith in
     let more = ap (λ (t : FlowTable). take i tables ++ t ∷ []) c.table-item.is ∙ sym (take_more tables i table h) in
-    subst (λ (ts : List FlowTable). IsSumSoFar ts c.add.new.self) more (c.in_ok-add.ensures (take i tables) c.loop-table.invariant)
+    subst (λ (ts : List FlowTable). IsSumSoFar ts c.add.new.self) more (c.in_ok-add.ensures.ok (take i tables) c.loop-table.invariant)
 
 pub returns : goal.returns
 returns c =

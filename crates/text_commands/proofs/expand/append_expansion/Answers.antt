@@ -30,7 +30,7 @@ returns c =
     let made = c.in_ok-contr.ensures in
     record {
       line =
-          c.in_ok-print_contract.ensures ∙ ap (λ (n : List ℕ). before ++ contract_text of n (contract c.in_ok-contr.contr)) c.text.ensures
+          c.in_ok-print_contract.ensures.ok ∙ ap (λ (n : List ℕ). before ++ contract_text of n (contract c.in_ok-contr.contr)) c.text.ensures
           ∙ ap (λ (t : Contract). before ++ contract_text of c.args.name.now t) made.is;
       accepted = made.accepted;
     }

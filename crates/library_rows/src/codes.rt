@@ -1,0 +1,85 @@
+//! Calls on payoff code and on sets of scenarios.
+
+ghost use Rattle.std.specs.Prelude.{◌<◌, length};
+
+use crate::call_err::{Answer, CallErr};
+use crate::files::code_of;
+use crate::saying::{say, say_same};
+use crate::words::{count, first_word};
+use fixing_files::Fixings;
+use payoff_compile::cut;
+use payoff_eval::value_scratch;
+use payoff_terms::{Code, CodeFile};
+use row_language::Rows;
+use scenario_set::{Scenarios, read_scenarios};
+use std::alloc::Global;
+use term_model::{Decls, MOST_COUNTED};
+
+// Appends whether the cut of code is that of a file.
+fn say_cut(alloc: Global, code: Code, wanted: &[u8], out: &mut String) -> Answer {
+    let rest = cut(alloc, code)?;
+    let file = code_of(alloc, wanted)?;
+    say_same(rest == file.code, out)
+}
+
+/// `cut CODE CUT`: whether the cut of the code of a file is the code of another.
+pub fn is_cut(alloc: Global, text: &[u8], wanted: &[u8], out: &mut String) -> Answer {
+    let CodeFile { code, .. } = code_of(alloc, text)?;
+    say_cut(alloc, code, wanted, out)
+}
+
+/// `value_scratch CODE`: that there is room for the names of a code file.
+pub fn has_room(alloc: Global, text: &[u8], out: &mut String) -> Answer {
+    let file = code_of(alloc, text)?;
+    let _room = value_scratch(alloc, &file)?;
+    out.push_str("| room\n")?;
+    Ok(())
+}
+
+// Appends the fixed days of each label.
+fn say_days(decls: &Decls, fixings: &Fixings, out: &mut String) -> Answer {
+    for label in 0..decls.labels.len() as u32 {
+        say(&fixings.days_of(label), out)?;
+    }
+    Ok(())
+}
+
+// Appends those of a scenario.
+fn say_scenario(
+    alloc: Global,
+    decls: &Decls,
+    set: &Scenarios,
+    place: u32,
+    out: &mut String,
+) -> Answer {
+    if place >= set.count() {
+        return Err(CallErr::Range);
+    }
+    let fixings = set.fixings(alloc, place)?;
+    say_days(decls, &fixings, out)
+}
+
+// The scenarios of a table.
+fn scenarios_of(alloc: Global, text: &[u8], decls: &Decls) -> Result<Scenarios, CallErr> {
+    if text.len() > MOST_COUNTED as usize {
+        return Err(CallErr::Range);
+    }
+    match read_scenarios(alloc, text, decls) {
+        Ok(set) => Ok(set),
+        Err(_) => Err(CallErr::Text),
+    }
+}
+
+// Appends what is fixed in a scenario of a table.
+fn say_fixed(alloc: Global, decls: &Decls, table: &[u8], place: u32, out: &mut String) -> Answer {
+    let set = scenarios_of(alloc, table, decls)?;
+    say_scenario(alloc, decls, &set, place, out)
+}
+
+/// `fixings CODE TABLE SCENARIO`: what is fixed in a scenario, by its place, of each label of a
+/// code file.
+pub fn fixed(alloc: Global, rows: &Rows<'_>, text: &[u8], words: &str, out: &mut String) -> Answer {
+    let (table, place) = first_word(words);
+    let file = code_of(alloc, text)?;
+    say_fixed(alloc, &file.decls, rows.file(table)?, count(place)?, out)
+}

@@ -1,0 +1,20 @@
+//! Answers as lines.
+
+use crate::call_err::Answer;
+use std::fmt::Debug;
+
+/// Appends what a call answers.
+pub fn say<T: Debug>(answer: &T, out: &mut String) -> Answer {
+    write!(out, "| {answer:?}\n")?;
+    Ok(())
+}
+
+/// Appends whether a call has made what is wanted.
+pub fn say_same(is_same: bool, out: &mut String) -> Answer {
+    out.push_str(if is_same {
+        "| as wanted\n"
+    } else {
+        "| something else\n"
+    })?;
+    Ok(())
+}
