@@ -1,10 +1,12 @@
 """Makes the library of the crate `tilugba_c`: one object, whose names are those of include/tilugba.h alone, as libtilugba.a and
 libtilugba.so.
 
-It fails where the library asks the system for more than six functions, or has a variable, which threads would share.
+It fails where the library asks the system for more than six functions, or has a variable, which threads would share. The file
+libtilugba.made beside them says what they were made of: the checksums of the texts and of both files, and whether they were proved.
 """
 from __future__ import annotations
 
+import contextlib
 import re
 import shutil
 import subprocess
@@ -12,14 +14,16 @@ import tempfile
 from collections.abc import Iterable, Iterator
 from pathlib import Path
 
+from . import kept
 from .compiling import Compiling, must_run, run, telling
-from .sources import Stop
+from .sources import Sources, Stop, say, sum_of
 from .toolchain import Toolchain
 
 CRATE = "tilugba_c"
 EXPORTS = {"tilugba_abi", "tilugba_run"}
 IMPORTS = {"free", "malloc", "memcpy", "memmove", "memset", "realloc"}
 FILES = ("libtilugba.a", "libtilugba.so")
+MADE = "libtilugba.made"
 TOOLS = ("ar", "gcc", "ld", "nm", "objcopy", "readelf")
 # A static library has no main function, and `rt try` takes no crate without one: this one reaches both exports.
 MAIN = """
@@ -65,36 +69,79 @@ def exported(line: str) -> str:
     return line
 
 
-def build(tools: Toolchain, repository: Path, out: Path, *, is_proved: bool, backend: str) -> None:
-    """Writes libtilugba.a and libtilugba.so into a folder, each of which replaces another by one rename."""
+def build(tools: Toolchain, repository: Path, outs: dict[str, Path], *, only_kept: bool = False) -> None:
+    """Writes the library of the proved crate as each of these compilers makes it, `llvm` or `rattle`, into the folder that is named with it.
+    Raises NotKept if only what the gate has kept may be taken, and that is not enough."""
+    look_for_tools()
+    texts = Sources(repository, CRATE).sum()
+    with over_proved(tools, repository, only_kept) as top:
+        for backend, out in outs.items():
+            put(tools, archive_by(backend, top), out, f"proved, and compiled by {backend}", texts)
+    refuse_if_changed(repository, texts)
+
+
+def build_unproved(tools: Toolchain, repository: Path, out: Path) -> None:
+    """Writes the library that is compiled with nothing proved into a folder."""
+    look_for_tools()
+    texts = Sources(repository, CRATE).sum()
+    with tempfile.TemporaryDirectory(prefix="tilugba-") as room, telling():
+        CompilingLibrary(tools, repository, Path(room)).compile_module()
+        refuse_if_changed(repository, texts)
+        put(tools, Path(room, "plain.o"), out, "compiled with nothing proved", texts)
+
+
+def look_for_tools() -> None:
     for it in TOOLS:
         if not shutil.which(it):
             raise Stop(f"there is no {it} in the PATH: install gcc and binutils")
+
+
+@contextlib.contextmanager
+def over_proved(tools: Toolchain, repository: Path, only_kept: bool) -> Iterator[Path]:
+    """Where `rt lib` has only the crate itself to prove: a copy with the libraries that a gate on this machine has proved of the same texts.
+    If they are not all kept, it is this tree, in which what is not proved yet is proved first."""
+    with contextlib.ExitStack() as ending:
+        try:
+            top = ending.enter_context(kept.copy_over_kept(tools, repository, CRATE))
+            say(f"the libraries below {CRATE} are those that the gate has proved; it is proved over them and compiled, in some minutes")
+        except kept.NotKept as why:
+            if only_kept:
+                raise
+            top = repository
+            say(f"{why}, so what is not proved yet is proved first, crate by crate, which takes hours from nothing")
+        yield top
+
+
+def archive_by(backend: str, top: Path) -> Path:
+    """The archive of the crate by a compiler. What is proved is kept there for the next one."""
+    words, archive = ["rt", "lib", "--backend", backend], top / f"crates/{CRATE}/out/lib{CRATE}.a"
+    archive.unlink(missing_ok=True)
+    done = run(words, cwd=top / "crates" / CRATE)
+    if done.returncode or not archive.is_file():
+        last = (done.stdout.strip().splitlines() or ["it does not say why"])[-1]
+        raise Stop(f"the crate {CRATE} was not proved or not compiled ({last}): `{' '.join(words)}` in crates/{CRATE} says more")
+    return archive
+
+
+def refuse_if_changed(repository: Path, texts: str) -> None:
+    if Sources(repository, CRATE).sum() != texts:
+        raise Stop("the sources have changed meanwhile: call this again")
+
+
+def put(tools: Toolchain, objects: Path, out: Path, made: str, texts: str) -> None:
+    """Links the objects, and writes libtilugba.a, libtilugba.so and their record into a folder, each of which replaces another by one rename."""
     with tempfile.TemporaryDirectory(prefix="tilugba-") as place:
         room = Path(place)
-        if is_proved:
-            objects = prove(repository, backend)
-        else:
-            with telling():
-                CompilingLibrary(tools, repository, room).compile_module()
-            objects = room / "plain.o"
         link(tools.kit, objects, room)
+        told = {"sources": texts, "toolchain": tools.name, "made": made, **{it: sum_of(room / it) for it in FILES}}
+        (room / MADE).write_text("".join(f"{name}: {text}\n" for name, text in told.items()), encoding="utf-8")
         out.mkdir(parents=True, exist_ok=True)
-        for it in FILES:
+        # The record comes last, so that one that agrees with the files is of them.
+        for it in (*FILES, MADE):
             new = out / f"{it}.new"
             shutil.copyfile(room / it, new)
             new.chmod(0o755 if it.endswith(".so") else 0o644)
             new.rename(out / it)
-
-
-def prove(repository: Path, backend: str) -> Path:
-    """Has the toolchain prove the crate, with those below it that are not, and compile its archive."""
-    words = ["rt", "lib", *([] if backend == "llvm" else ["--backend", backend])]
-    folder = repository / "crates" / CRATE
-    done = run(words, cwd=folder)
-    if done.returncode:
-        raise Stop(f"the crate {CRATE} was not proved or not compiled: `{' '.join(words)}` in crates/{CRATE} says more")
-    return folder / f"out/lib{CRATE}.a"
 
 
 def link(kit: Path, objects: Path, room: Path) -> None:

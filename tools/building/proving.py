@@ -7,7 +7,7 @@ import shutil
 import time
 from pathlib import Path
 
-from . import lanes, toolchain
+from . import kept, lanes, toolchain
 from .lanes import Lane
 from .memory import available, memory_of
 from .plan import Plan, minutes
@@ -120,13 +120,14 @@ def prove(plan: Plan, texts: list[str]) -> str | None:
         return run.all()
 
 
-def replace_program(sources: Sources, of_texts: str) -> None:
-    """Puts the new program in the place of the old one, which goes on working until then."""
-    new = Path(f"{PROVED}.new")
-    shutil.copyfile(f"crates/{CRATE}/out/{CRATE}", new)
-    new.chmod(0o755)
-    new.rename(PROVED)
-    Path("built/sums").write_text(sources.sums(of_texts, PROVED), encoding="ascii")
+def replace_program(made: Path, sources: Sources, of_texts: str) -> None:
+    """Puts the program that was made in the place of the old one, which goes on working until then."""
+    with held(Path(BUILT)):
+        new = Path(f"{PROVED}.new")
+        shutil.copyfile(made, new)
+        new.chmod(0o755)
+        new.rename(PROVED)
+        Path("built/sums").write_text(sources.sums(of_texts, PROVED), encoding="ascii")
 
 
 def stop_on(crate: str, of_texts: str) -> None:
@@ -148,24 +149,54 @@ def prove_until_settled(top: Path, at_once: int, most: int) -> None:
         if failed:
             stop_on(failed, before)
         if Sources(top).sum() == before:
-            replace_program(sources, before)
+            replace_program(Path(kept.PROGRAM), sources, before)
             return
         say("the sources have changed meanwhile, so once more")
 
 
+def take_kept(tools: Toolchain, top: Path) -> None:
+    """Takes the program that a gate on this machine has proved of the texts as they are; raises NotKept where there is none."""
+    while True:
+        sources = Sources(top)
+        before = sources.sum()
+        with kept.copy_over_kept(tools, top, CRATE) as copy:
+            if Sources(copy).sum() == before:
+                replace_program(copy / kept.PROGRAM, sources, before)
+                return
+
+
 def build(top: Path, at_once: int, most: int) -> None:
     """Sees to it that built/tilugba is the program of the texts. The program that was there stays if that fails."""
-    os.chdir(top)
-    found = Sources(top).look()
-    if found and found.is_proved:
+    if not why_not_taken(top):
         return
-    toolchain.at_hand(top)
-    (top / BUILT).mkdir(exist_ok=True)
-    with held(top / BUILT / "lock", "another build goes on; this one waits for it") as had_to_wait:
-        found = Sources(top).look()
-        if found and found.is_proved:
+    with contextlib.chdir(top), held(top / BUILT / "lock", "another build goes on; this one waits for it") as had_to_wait:
+        if is_there(top):
             return
         if had_to_wait and FAILED.is_file() and FAILED.read_text(encoding="ascii") == Sources(top).sum():
             raise Stop("the build that was waited for failed; its log is built/log")
         prove_until_settled(top, at_once, most)
         Sources(top).look()
+
+
+def is_there(top: Path) -> bool:
+    found = Sources(top).look()
+    return found is not None and found.is_proved
+
+
+def why_not_taken(top: Path) -> str | None:
+    """Sees to it that built/tilugba is the program of the texts, if it is so or a gate on this machine has kept it; returns else why not."""
+    if is_there(top):
+        return None
+    tools = toolchain.at_hand(top)
+    (top / BUILT).mkdir(exist_ok=True)
+    with contextlib.chdir(top):
+        while not is_there(top):
+            sources = Sources(top)
+            before = sources.sum()
+            try:
+                with kept.copy_over_kept(tools, top, CRATE) as copy:
+                    if Sources(copy).sum() == before:
+                        replace_program(copy / kept.PROGRAM, sources, before)
+            except kept.NotKept as why:
+                return str(why)
+    return None

@@ -57,8 +57,8 @@ def crate_lines(file: Path) -> dict[str, list[str]]:
     return {name_of(it): it.partition("#")[0].partition(":")[2].split() for it in lines if name_of(it)}
 
 
-def crates_in_order(rows: dict[str, list[str]]) -> list[str]:
-    """The crates of the program, each behind those that it uses, its own as the last. Lines of crates.txt come in any order."""
+def crates_in_order(rows: dict[str, list[str]], top: str = CRATE) -> list[str]:
+    """The crates that one stands on, as the program's does, each behind those that it uses, its own as the last. Lines of crates.txt come in any order."""
     found: dict[str, None] = {}
 
     def visit(crate: str, above: tuple[str, ...]) -> None:
@@ -69,9 +69,9 @@ def crates_in_order(rows: dict[str, list[str]]) -> list[str]:
                 visit(used, (*above, crate))
             found[crate] = None
 
-    visit(CRATE, ())
+    visit(top, ())
     if not found:
-        raise Stop(f"crates.txt does not name the crate {CRATE}: take that file from a clone")
+        raise Stop(f"crates.txt does not name the crate {top}: take that file from a clone")
     return list(found)
 
 
@@ -89,12 +89,12 @@ class Program:
 
 
 class Sources:
-    """The texts of the program in a repository: those that a check of its crates reads."""
+    """The texts of the program, or of another crate and those below it, in a repository: those that a check of these crates reads."""
 
-    def __init__(self, top: Path):
+    def __init__(self, top: Path, crate: str = CRATE):
         self.top = top
         try:
-            self.crates = crates_in_order(crate_lines(top / "crates.txt"))
+            self.crates = crates_in_order(crate_lines(top / "crates.txt"), crate)
         except OSError as error:
             raise Stop(f"{error.filename} cannot be read ({error.strerror})") from error
         self.parts = [f"crates/{it}/{part}" for it in self.crates for part in PARTS if (top / f"crates/{it}/{part}").is_dir()]
