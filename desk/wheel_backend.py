@@ -7,6 +7,7 @@ from __future__ import annotations
 
 import base64
 import hashlib
+import io
 import os
 import stat
 import zipfile
@@ -37,7 +38,7 @@ def metadata() -> bytes:
     return "".join(f"{line}\n" for line in lines).encode()
 
 
-def library() -> bytes:
+def named_library() -> bytes:
     path = Path(os.environ.get("TILUGBA_LIBRARY") or TOP / "built" / LIBRARY)
     try:
         return path.read_bytes()
@@ -45,12 +46,12 @@ def library() -> bytes:
         raise SystemExit(f"{path} is not read ({error.strerror}): tools/build-library makes it, or name it by TILUGBA_LIBRARY") from error
 
 
-def files() -> Files:
-    """The files of the wheel, without the list of them."""
+def files(library: bytes) -> Files:
+    """The files of the wheel with this library, without the list of them."""
     package = sorted(it for it in (HERE / NAME).rglob("*") if it.is_file() and "__pycache__" not in it.parts and it.suffix != ".so")
     found = {str(it.relative_to(HERE)): it.read_bytes() for it in package}
     found[f"{NAME}/commands.toml"] = (TOP / "commands.toml").read_bytes()
-    found[f"{NAME}/{LIBRARY}"] = library()
+    found[f"{NAME}/{LIBRARY}"] = library
     info = f"{NAME}-{version()}.dist-info"
     found[f"{info}/LICENSE"] = (TOP / "LICENSE").read_bytes()
     found[f"{info}/METADATA"] = metadata()
@@ -74,11 +75,21 @@ def get_requires_for_build_wheel(config_settings: object = None) -> list[str]:
 
 def build_wheel(folder: str, config_settings: object = None, metadata_directory: str | None = None) -> str:
     """Writes the wheel into a folder, and returns its name."""
-    wheel = f"{NAME}-{version()}-{TAG}.whl"
-    with zipfile.ZipFile(Path(folder) / wheel, "w", zipfile.ZIP_DEFLATED) as out:
-        for name, data in with_record(files()).items():
+    (Path(folder) / wheel_name()).write_bytes(wheel(named_library()))
+    return wheel_name()
+
+
+def wheel_name() -> str:
+    return f"{NAME}-{version()}-{TAG}.whl"
+
+
+def wheel(library: bytes) -> bytes:
+    """The wheel with this library. The same files give the same bytes."""
+    room = io.BytesIO()
+    with zipfile.ZipFile(room, "w", zipfile.ZIP_DEFLATED) as out:
+        for name, data in with_record(files(library)).items():
             entry = zipfile.ZipInfo(name, DATE)
             entry.external_attr = (stat.S_IFREG | (0o755 if name.endswith(".so") else 0o644)) << 16
             entry.compress_type = zipfile.ZIP_DEFLATED
             out.writestr(entry, data)
-    return wheel
+    return room.getvalue()

@@ -6,6 +6,7 @@ import io
 import os
 import stat
 import tempfile
+import time
 import unittest
 from contextlib import redirect_stderr, redirect_stdout
 from dataclasses import dataclass
@@ -18,6 +19,25 @@ TOP = Path(__file__).resolve().parents[2]
 EXAMPLES = TOP / "examples"
 CASES = TOP / "tests" / "cases"
 DESK = TOP / "desk"
+
+
+# What `a_loop` takes of a processor of 2.5 GHz that does nothing else.
+QUIET_LOOP = 0.06
+
+
+def a_loop() -> None:
+    sum(number * number for number in range(1_000_000))
+
+
+def slowness() -> float:
+    """How many times as long as on a quiet machine Python takes here and now, and at least 1: processors that others use too are slower.
+    Limits of time are stretched by that, so that they tell of the code and not of the machine."""
+    taken = []
+    for _ in range(5):
+        start = time.process_time()
+        a_loop()
+        taken.append(time.process_time() - start)
+    return max(min(taken) / QUIET_LOOP, 1.0)
 
 
 def the_program() -> Program:

@@ -10,6 +10,7 @@ import os
 import re
 import shutil
 import subprocess
+import sys
 import unittest
 
 from tests.support import DESK, TOP, Room, the_program
@@ -75,6 +76,38 @@ class Editors(Room):
               (princ (format " %%s %%s" (compilation--loc->line loc) (compilation--loc->col loc))))))"""
         said = self.run_editor("emacs", "-Q", "--batch", "--eval", script % (TOP / "editors" / "emacs"))
         self.assertIn("tilugba-mode 5 1", said)
+
+
+# Reads what a task prints, and says which lines the pattern of a problem matcher takes, as the regular expressions of VS Code do.
+MATCH = """
+const pattern = JSON.parse(process.argv[1]), lines = require('fs').readFileSync(0, 'utf8').split(/\\r?\\n/);
+const told = lines.map(line => new RegExp(pattern.regexp).exec(line)).filter(found => found);
+console.log(JSON.stringify(told.map(it => [it[pattern.file], +it[pattern.line], +it[pattern.column], it[pattern.message]])));
+"""
+
+
+class Matched(Room):
+    """The lines of the tasks of editors/vscode/README.md, under the pattern of the extension, by the engine that VS Code runs on."""
+
+    @unittest.skipUnless(shutil.which("node"), "node is not installed")
+    def test_the_tasks_of_vscode(self) -> None:
+        pattern = json.loads((VSCODE / "package.json").read_text())["contributes"]["problemMatchers"][0]["pattern"]
+        tasks = json.loads(re.search(r'```json\n(\{\n  "version".*?)```', (VSCODE / "README.md").read_text(), re.S)[1])["tasks"]
+        refused = BOOK.replace("12,500.00", "12500.005")
+        book = BOOK.replace("12,500.00", "12500.00") + "\ncontract nothing = zero;"
+        wanted = {
+            "explain": [(BOOK, [(5, 12, "syntax")]), (refused, [(5, 3, "c is refused by the rule scale")])],
+            "lint": [(book, [(5, 19, "weekend: c pays on 2026-01-10, a Saturday"), (6, 10, "zero: nothing is zero, so nothing is left of it")])],
+        }
+        for task in tasks:
+            self.assertEqual((task["command"], task["type"]), ("tilugba-desk", "process"))
+            for number, (text, places) in enumerate(wanted[task["args"][0]]):
+                path = self.file(f"a book, {number}.txt", text)
+                words = [str(path) if it == "${file}" else it for it in task["args"]]
+                ran = subprocess.run([sys.executable, DESK / "tilugba-desk", *words], capture_output=True, text=True, env=os.environ)
+                node = ["node", "-e", MATCH, json.dumps(pattern)]
+                found = json.loads(subprocess.run(node, input=ran.stdout + ran.stderr, capture_output=True, text=True, check=True).stdout)
+                self.assertEqual(found, [[str(path), *it] for it in places], ran)
 
 
 class Sources(unittest.TestCase):

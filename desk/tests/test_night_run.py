@@ -1,10 +1,11 @@
 """A night run's books, checksums and time limit. tests/operations runs it as a whole: by the program, a stand-in, and signals."""
 
 import os
+import subprocess
 import time
 import unittest
 
-from tests.support import Room, run_desk
+from tests.support import DESK, Room, run_desk
 from tilugba.night import books, sums
 from tilugba.program import Stop
 
@@ -58,6 +59,20 @@ class Limits(Room):
         self.assertLess(time.monotonic() - begin, 30)
         self.assertEqual((ran.status, ran.output), (70, "book: status 70\n1 book: 0 done, 0 done before, 1 failed\n"))
         self.assertEqual((self.folder / "out" / "book.fault").read_text(), "status 70\n")
+
+    def test_a_count_on_a_terminal(self) -> None:
+        """On a terminal it says how many books are done, and takes the line away at the end."""
+        program = self.script("slow", "#!/bin/sh\nif [ $1 = sample ]; then echo contracts 1; else sleep 0.3; fi\n")
+        books = [self.file(f"{number}", "any\n") for number in range(3)]
+        words = ["night-run", "--program", program, "--jobs", "1", self.folder / "out", "check", "{}", "--", *books]
+        screen, terminal = os.openpty()
+        ran = subprocess.run([DESK / "tilugba-desk", *words], stdout=subprocess.PIPE, stderr=terminal)
+        os.close(terminal)
+        seen = os.read(screen, 10_000).decode()
+        os.close(screen)
+        self.assertEqual((ran.returncode, ran.stdout), (0, b"3 books: 3 done, 0 done before, 0 failed\n"))
+        self.assertRegex(seen, r"\rnight-run: [123] of 3 books, \d+ s")
+        self.assertEqual(seen.split("\r")[-1], "")
 
     def test_words_that_do_not_do(self) -> None:
         for words in (), ("out",), ("out", "check", "{}"), ("out", "check", "{}", "--"), ("--jobs", "0", "out", "check", "{}", "--", "b"):

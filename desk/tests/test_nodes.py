@@ -15,6 +15,17 @@ class Nodes(Room):
         ran = run_desk("nodes", "c", book)
         self.assertEqual((ran.status, ran.output.splitlines(), ran.errors), (0, wanted, ""))
 
+    def test_a_tree_for_graphviz(self) -> None:
+        text = "contract c = if (obs(FX, 0) > x) within 5 then zero else after(2, pay(EUR, A, B));\n".replace("x", "-1.5")
+        ran = run_desk("nodes", "c", self.file("book", HEAD + text), "--dot")
+        wanted = [
+            'n0 [label="0: if within 5", shape=box]', "n0 -> n1", "n0 -> n4", "n0 -> n5", 'n1 [label="1: >", shape=oval]', "n1 -> n2",
+            "n1 -> n3", 'n2 [label="2: obs(FX, 0)", shape=oval]', 'n3 [label="3: -1.5", shape=oval]', 'n4 [label="4: zero", shape=box]',
+            'n5 [label="5: after 2", shape=box]', "n5 -> n6", 'n6 [label="6: pay(EUR, A, B)", shape=box]',
+        ]  # fmt: skip
+        lines = [it.strip() for it in ran.output.splitlines()]
+        self.assertEqual((ran.status, lines[0], lines[2:-1], lines[-1]), (0, 'digraph "c" {', wanted, "}"))
+
     def test_a_fault_elsewhere_does_not_matter(self) -> None:
         book = self.file("book", HEAD + "contract a = both(zero);\ncontract c = zero;\n")
         self.assertEqual(run_desk("nodes", "c", book).output, "0\tline 4 column 14\tzero\n")

@@ -181,7 +181,9 @@ class Examples(unittest.TestCase):
             status = folder / "status"
             wanted = int(status.read_text()) if status.exists() else 0
             with self.subTest(example=folder.name):
-                answer = run(*[str(folder / word) if (folder / word).exists() else word for word in words])
+                # The first word names a command, even if a file has that name.
+                files = [str(folder / it) if (folder / it).exists() else it for it in words[1:]]
+                answer = run(*words[:1], *files)
                 self.assertEqual(answer.status, wanted)
                 self.assertEqual(answer.fault is None, wanted == 0)
                 if wanted not in (Status.DONE, Status.REFUSED, Status.USAGE, Status.WORDS):

@@ -14,6 +14,9 @@ The rooms:
 - `texts`: tokens, and one parser of the four grammars.
 - `tables`: fixings, curves and sets of scenarios, as the program reads them.
 - `days`: days as numbers and as dates, weekdays, holidays.
+- `asking`: calls by the thousand, here or elsewhere. `histories`, `shocks`, `exposures`: a book day by day and over scenarios.
+- `diaries`, `reports`, `pictures`: what contracts did, and a book as a page.
+- `receipts`, `verifying`: what an answer was made of, and whether it stands. `night`: one command on each of many books.
 - `desk`, `cli`: what a subcommand works with, and how one is found and run.
 - `commands`: a file a subcommand. Its head says how one is added.
 - `editor`: the language server.

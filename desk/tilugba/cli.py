@@ -76,13 +76,17 @@ def parser_of(name: str, module: ModuleType) -> argparse.ArgumentParser:
         allow_abbrev=False,
     )
     parser.usage_status = getattr(module, "USAGE_STATUS", Status.USAGE)
-    shared = parser.add_argument_group("the program")
-    shared.add_argument(
-        "--program", metavar="PROGRAM", help=f"the program to run; otherwise that of {VARIABLE}, one beside this command, or in the PATH"
-    )
-    shared.add_argument("--seconds", metavar="N", type=seconds, help="end a run of the program after N seconds")
+    add_program_options(parser, None)
     module.configure(parser)
     return parser
+
+
+def add_program_options(parser: argparse.ArgumentParser, default: object) -> None:
+    """The options that each subcommand has; words of a word of it have them too, and leave to it what is not given."""
+    shared = parser.add_argument_group("the program")
+    said = f"the program to run; otherwise that of {VARIABLE}, one beside this command, or in the PATH"
+    shared.add_argument("--program", metavar="PROGRAM", default=default, help=said)
+    shared.add_argument("--seconds", metavar="N", type=seconds, default=default, help="end a run of the program after N seconds")
 
 
 def run(words: Sequence[str], beside: Path) -> int:

@@ -2,7 +2,6 @@
 
 from __future__ import annotations
 
-import difflib
 from collections.abc import Callable, Mapping, Sequence
 from dataclasses import dataclass, field
 
@@ -98,8 +97,11 @@ class Words:
 
 def nearest(word: str, known: Sequence[str]) -> str | None:
     """The one of several words that is most like another, if one is like it."""
+    import difflib  # it is loaded for a word that is wrong alone
+
+    same = next((it for it in known if it.lower() == word.lower()), None)
     found = difflib.get_close_matches(word, known, 1, 0.6)
-    return found[0] if found else next((it for it in known if it.lower() == word.lower()), None)
+    return same or (found[0] if found else None)
 
 
 def meant(word: str, known: Sequence[str]) -> str:

@@ -28,12 +28,13 @@ class Kind:
 
 @dataclass(frozen=True)
 class File:
-    """A file of a command, with the name of its argument in the definition of words."""
+    """A file of a command, with the name of its argument in the definition of words, and what it is."""
 
     name: str
     word: str
     argument: str
     is_needed: bool
+    what: str
 
 
 @dataclass(frozen=True)
@@ -67,7 +68,6 @@ class Command:
     has_number: bool
     does: str
     short: str
-    about: str
     statuses: tuple[Status, ...]
     example: str
 
@@ -130,7 +130,6 @@ def command_of(told: dict, all_told: dict, kinds: dict[str, Kind], statuses: dic
         has_number=told.get("number", False),
         does=told["does"],
         short=told["short"],
-        about=told["about"].strip(),
         statuses=tuple(
             Status(number, statuses[number].meaning, why.get(str(number), statuses[number].why)) for number in numbers
         ),
@@ -139,7 +138,7 @@ def command_of(told: dict, all_told: dict, kinds: dict[str, Kind], statuses: dic
 
 
 def file_of(name: str, told: dict, is_needed: bool) -> File:
-    return File(name, told["word"], told.get("argument", name), is_needed)
+    return File(name, told["word"], told.get("argument", name), is_needed, told["is"])
 
 
 def option_of(told: dict, kinds: dict[str, Kind]) -> Option:

@@ -9,10 +9,13 @@ from contextlib import suppress
 from dataclasses import dataclass
 from functools import cached_property
 from pathlib import Path
-from typing import BinaryIO
+from typing import TYPE_CHECKING, BinaryIO
 
 from . import program
 from .program import Program, Status, Stop, reason_of
+
+if TYPE_CHECKING:
+    from .engines import Engine
 
 COMMAND = "tilugba-desk"
 
@@ -31,6 +34,17 @@ class Desk:
     @cached_property
     def program(self) -> Program:
         return program.find(self.program_path, self.beside, self.seconds)
+
+    @cached_property
+    def engine(self) -> Engine:
+        """What answers calls by the thousand: the library, unless a program or a limit is named, or there is no library."""
+        from . import engines
+
+        path = None if self.program_path or self.seconds else engines.library_path()
+        try:
+            return engines.Library(path) if path else engines.Runs(self.program)
+        except ImportError as error:
+            raise Stop(Status.DESK, str(error)) from error
 
     def write(self, *parts: str | bytes) -> None:
         """Writes to standard output, whole, or ends the command with 4."""

@@ -49,16 +49,23 @@ class Library:
         return Answer(*self.native.call([encoded(word) for word in words], [(encoded(name), text) for name, text in files.items()]))
 
 
-class ByProgram:
-    """The program, in a process for each call."""
+class Runs:
+    """The program, in a process for each call; one that gives no answer is a `Stop`."""
 
     def __init__(self, run: Program) -> None:
         self.program = run
 
     def answer(self, words: Words, files: Files) -> Answer:
         """The program opens files by names of its own, so words that name files are exchanged for those."""
+        return self.program.run(*exchanged(words, files))
+
+
+class ByProgram(Runs):
+    """The same as a call of Python, in which a `NoAnswer` is raised."""
+
+    def answer(self, words: Words, files: Files) -> Answer:
         try:
-            return self.program.run(*exchanged(words, files))
+            return super().answer(words, files)
         except Stop as stop:
             raise NoAnswer(stop.message) from stop
 

@@ -1,7 +1,9 @@
 """A picture of a table, as an SVG that gnuplot draws.
 
-TABLE has a header. If its first column is `month` or `value`, each further column is a row of bars; if it is `day`, each is a line in
-steps. Days are all numbers or all dates. A comment in PICTURE has the checksum of TABLE, so that it can be seen of which table it is.
+TABLE has a header. If its first column is `month`, each further column is a row of bars. If it is `day`, each is a line in steps; days are
+all numbers or all dates. If it is `value`, as `histogram` prints it, the bars of a step go from its beginning to the next one. TITLE is above
+the picture, and is its title for browsers and screen readers; --unit names the unit of amounts on its axis. A comment in PICTURE has the
+checksum of TABLE, so that it can be seen of which table it is.
 
 Ends with 0; 3 if TABLE is not read; 4 if PICTURE is not written; 7 if TABLE is no such table; 69 if gnuplot is not installed, and 70 if
 it draws nothing.
@@ -16,6 +18,7 @@ import shutil
 import subprocess
 from dataclasses import dataclass
 from pathlib import Path
+from xml.sax.saxutils import escape
 
 from ..desk import Desk
 from ..program import Status, Stop, reason_of
@@ -25,10 +28,13 @@ from ..tables import read_file
 UNAVAILABLE = 69
 HEADER = re.compile(r"(month|value|day)(?:,[A-Za-z_][A-Za-z0-9_]*)+")
 ROW = re.compile(r"(?:-?[0-9]{1,40}|[0-9]{4}-[0-9]{2}(?:-[0-9]{2})?)(?:,-?[0-9]+(?:[.][0-9]+)?)+")
-ALIKE = """set terminal svg size 900,380 font 'sans,13' background 'white' name 'picture'
+ALIKE = """set terminal svg size 900,400 font 'sans,13' background 'white' name 'picture'
 set datafile separator ','
 set title "%s" noenhanced
+set xlabel "%s" noenhanced
+set ylabel "%s" noenhanced
 set grid ytics
+set tics out nomirror
 set xzeroaxis linetype -1
 set format y '%%.%df'
 set key %s
@@ -36,14 +42,24 @@ set key %s
 BARS = """set style data histograms
 set style histogram clustered gap 1
 set style fill solid 0.8 noborder
-set xtics rotate by 45 right
-plot for [column=2:%d] '%s' using column:xtic(1) title columnheader(column)
+set xtics rotate by 45 right (%s)
+plot for [column=2:%d] '%s' using column title columnheader(column)
 """
-STEPS_OF_NUMBERS = "plot for [column=2:%d] '%s' using 1:column with steps linewidth 2 title columnheader(column)\n"
+# The bars of a step stand between its beginning and the next one.
+BARS_OF_STEPS = """set style fill solid 0.8 border rgb 'white'
+set boxwidth %d
+set xtics rotate by 45 right
+set yrange [0:*]
+plot for [column=2:%d] '%s' using ($1 + %d / 2.0):column with boxes title columnheader(column)
+"""
+STEPS_OF_NUMBERS = """set offsets graph 0.02, graph 0.02, graph 0.05, graph 0.05
+plot for [column=2:%d] '%s' using 1:column with steps linewidth 2 title columnheader(column)
+"""
 STEPS_OF_DATES = f"""set xdata time
 set timefmt '%%Y-%%m-%%d'
 set format x '%%d %%b'
 {STEPS_OF_NUMBERS}"""
+MONTHS = ("Jan", "Feb", "Mar", "Apr", "May", "Jun", "Jul", "Aug", "Sep", "Oct", "Nov", "Dec")
 # From here on an amount needs no decimals at the side of a picture.
 GREAT = 10
 
@@ -51,20 +67,22 @@ GREAT = 10
 def configure(parser: argparse.ArgumentParser) -> None:
     parser.add_argument("table", metavar="TABLE", help="a table by month, value or day")
     parser.add_argument("picture", metavar="PICTURE", help="the file of the picture")
-    parser.add_argument("title", metavar="TITLE", help="what stands above it")
+    parser.add_argument("title", metavar="TITLE", help="what is above it")
+    parser.add_argument("--unit", metavar="UNIT", default="", help="the unit of the amounts, such as EUR")
 
 
 def run(arguments: argparse.Namespace, desk: Desk) -> int:
     table = read_table(arguments.table)
     if not shutil.which("gnuplot"):
         raise Stop(UNAVAILABLE, "gnuplot is not installed")
-    script = script_of(table, arguments.title).encode()
+    script = script_of(table, one_line(arguments.title), one_line(arguments.unit)).encode()
     drawn = subprocess.run(["gnuplot"], input=script, stdout=subprocess.PIPE, check=False)
     if drawn.returncode != 0 or b"</svg>" not in drawn.stdout:
         raise Stop(Status.DESK, "gnuplot draws nothing")
     mark = f"<!-- of a table with the sha256 sum {hashlib.sha256(table.data).hexdigest()} -->\n"
+    picture = drawn.stdout.replace(b"<title>picture</title>", f"<title>{escape(one_line(arguments.title))}</title>".encode())
     try:
-        Path(arguments.picture).write_bytes(drawn.stdout.rstrip() + b"\n" + mark.encode())
+        Path(arguments.picture).write_bytes(picture.rstrip() + b"\n" + mark.encode())
     except (OSError, ValueError) as error:
         raise Stop(Status.NOT_WRITTEN, f"{arguments.picture}: {reason_of(error)}") from error
     return Status.DONE
@@ -79,6 +97,10 @@ class Table:
     lines: list[str]
     columns: int
 
+    def firsts(self) -> list[str]:
+        """The first column, without its name."""
+        return [it.split(",")[0] for it in self.lines[1:]]
+
 
 def read_table(path: str) -> Table:
     data = read_file(path)
@@ -90,13 +112,46 @@ def read_table(path: str) -> Table:
     return Table(path, data, lines, columns)
 
 
-def script_of(table: Table, title: str) -> str:
+def one_line(text: str) -> str:
+    """A text as gnuplot may have it between quotes."""
+    return re.sub(r'["\\\n]', " ", text)
+
+
+def script_of(table: Table, title: str, unit: str) -> str:
     """What gnuplot is told."""
-    if not table.lines[0].startswith("day"):
-        plot = BARS
-    else:
-        plot = STEPS_OF_DATES if "-" in table.lines[1].split(",")[0][1:] else STEPS_OF_NUMBERS
     # A picture of small amounts has decimals at its side, and one line needs no name.
     decimals = 0 if any(abs(float(it)) >= GREAT for line in table.lines[1:] for it in line.split(",")[1:]) else 2
-    key = "outside above horizontal noenhanced" if table.columns > 2 else "off"
-    return ALIKE % (re.sub(r'["\\\n]', " ", title), decimals, key) + plot % (table.columns, table.path)
+    key = "outside bottom center horizontal noenhanced" if table.columns > 2 else "off"
+    across, up = axes(table, unit)
+    return ALIKE % (title, across, up, decimals, key) + plot_of(table)
+
+
+def axes(table: Table, unit: str) -> tuple[str, str]:
+    """What is told along the axes: of dates the years, which their marks leave out."""
+    kind, *names = table.lines[0].split(",")
+    of_unit = f" in {unit}" if unit else ""
+    if kind == "value":
+        return f"value{of_unit}", names[0]
+    years = sorted({it[:4] for it in table.firsts() if "-" in it[1:]})
+    across = f"day of {' to '.join(sorted({years[0], years[-1]}))}" if years and kind == "day" else kind
+    return across, f"{names[0]}{of_unit}" if len(names) == 1 else unit
+
+
+def plot_of(table: Table) -> str:
+    kind, firsts = table.lines[0].split(",")[0], table.firsts()
+    if kind == "day":
+        return (STEPS_OF_DATES if "-" in firsts[0][1:] else STEPS_OF_NUMBERS) % (table.columns, table.path)
+    if kind == "value" and len(firsts) > 1:
+        width = int(firsts[1]) - int(firsts[0])
+        return BARS_OF_STEPS % (width, table.columns, table.path, width)
+    marks = ", ".join(f'"{month_name(it, at == 0)}" {at}' for at, it in enumerate(firsts))
+    return BARS % (marks, table.columns, table.path)
+
+
+def month_name(text: str, is_first: bool) -> str:
+    """A month in words, with its year if it is the first of the picture or of the year; a value stays."""
+    year, _, month = text.rpartition("-")
+    if not re.fullmatch("[0-9]{4}", year):
+        return text
+    name = MONTHS[int(month) - 1] if 1 <= int(month) <= len(MONTHS) else month
+    return f"{name} {year}" if is_first or name == MONTHS[0] else name

@@ -33,7 +33,7 @@ def run(arguments: argparse.Namespace, desk: Desk) -> int:
     nothing = decimals.total(it.amount * 0 for it in payments)
     got: dict[tuple[str, str], Decimal] = {}
     for payment in payments:
-        for party, amount in (payment.payer, -payment.amount), (payment.receiver, payment.amount):
+        for party, amount in (payment.payer, payment.amount.copy_negate()), (payment.receiver, payment.amount):
             at = month_of(payment), party
             got[at] = decimals.added(got.get(at, nothing), amount)
     parties = dict.fromkeys(party for it in payments for party in (it.payer, it.receiver))

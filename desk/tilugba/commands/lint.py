@@ -21,9 +21,9 @@ from .. import linting
 from ..command_line import FIX
 from ..days import read_holidays
 from ..desk import Desk
-from ..explanations.explaining import Run, notes_of
+from ..explanations.explaining import tell_fault
 from ..explanations.rows import Table
-from ..program import Answer, Status
+from ..program import Status
 from ..files import read_file
 from ..texts.grammar import PORTFOLIO
 from ..texts.reading import Reading
@@ -43,7 +43,7 @@ def run(arguments: argparse.Namespace, desk: Desk) -> int:
     book_data = read_file(arguments.book)
     checked = desk.program.run("check", book_data)
     if checked.status not in FINE:
-        return fault(desk, ["check", arguments.book], checked, {arguments.book: book_data})
+        return tell_fault(desk, ["check", arguments.book], checked, {arguments.book: book_data})
     book = linting.Book(Reading(book_data, PORTFOLIO), holidays)
     lines = [(it.place, it.told(arguments.book)) for it in linting.warnings_of(book, checked.verdicts())]
     below: list[str] = []
@@ -52,7 +52,7 @@ def run(arguments: argparse.Namespace, desk: Desk) -> int:
         words = ["flows", arguments.book, arguments.fix]
         answer = desk.program.run("flows", book_data, data)
         if answer.status not in FINE:
-            return fault(desk, words, answer, {arguments.book: book_data, arguments.fix: data})
+            return tell_fault(desk, words, answer, {arguments.book: book_data, arguments.fix: data})
         table = Table(arguments.fix, FIX, arguments.book, data, book.reading.declared)
         if answer.status != Status.REFUSED:
             lines += [(it.place, it.told(arguments.book)) for it in linting.wide_bounds(book, table)]
@@ -60,9 +60,3 @@ def run(arguments: argparse.Namespace, desk: Desk) -> int:
     told = [line for _, line in sorted(lines)] + below
     desk.write("".join(f"{line}\n" for line in told))
     return 1 if told else 0
-
-
-def fault(desk: Desk, words: list[str], answer: Answer, kept: dict[str, bytes]) -> int:
-    """Tells a fault as `explain` does."""
-    desk.tell(line for note in notes_of(Run(words, desk.program, answer, kept)) for line in note.told())
-    return answer.status

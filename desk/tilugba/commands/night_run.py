@@ -12,6 +12,10 @@ night run has written.
 A book is passed over if its result is there, is as it was written, and was made by the same program of the same words and bytes of
 files. Checksums tell it, which are in OUT/.night-run, and no times. So a run that was stopped goes on where it was.
 
+OUT/.night-run/receipts.jsonl has a receipt of each book in a line of JSON: the words; name, size and SHA-256 of each file, of the program and of
+the output; status, fault, time (`verify` compares them). OUT/.night-run/summary.json is there once a run has ended, for a monitor: how many
+books have which status, those that failed, seconds. On a terminal a count is shown meanwhile.
+
 At the end it prints a line for each book that failed, and one that counts. It ends with the greatest status of a book, where a
 signal counts 128 more than its number. It ends with 70 if these words, PROGRAM or OUT do not do, and with 75 if another run has OUT:
 then nothing was run. If a signal stops it, it ends with 128 and the signal's number.
@@ -21,25 +25,22 @@ from __future__ import annotations
 
 import argparse
 import os
+import time
 from collections.abc import Iterator, Sequence
 from contextlib import closing, suppress
 
+from ..counts import jobs
 from ..desk import Desk
+from ..night import records
 from ..night.books import Book, books_of, refused, shown
 from ..night.folder import Folder
 from ..night.running import Night, Outcome, Signalled, signals_raised, tried
-from ..program import Status, Stop
+from ..program import Status, Stop, reason_of
+from ..progress import Progress
 
 # A status of words that do not do might be that of a book.
 USAGE_STATUS = Status.DESK
-MOST_JOBS = 9_999
 LONGEST_LINE = 200
-
-
-def jobs(text: str) -> int:
-    if not (text.isascii() and text.isdigit() and len(text) < 10 and 0 < int(text) <= MOST_JOBS):
-        raise argparse.ArgumentTypeError(f"{text} is not a number from 1 to {MOST_JOBS:,}")
-    return int(text)
 
 
 def configure(parser: argparse.ArgumentParser) -> None:
@@ -65,8 +66,15 @@ def run_books(arguments: argparse.Namespace, desk: Desk) -> int:
     end = arguments.words.index("--", 1)
     books = books_of(arguments.words[end + 1 :], arguments.words[:end], arguments.out)
     program = tried(desk.program)
-    with closing(Folder(arguments.out)) as folder:
-        outcomes = Night(program, folder).outcomes(books, arguments.jobs or len(os.sched_getaffinity(0)))
+    begun = time.monotonic()
+    with closing(Folder(arguments.out)) as folder, closing(Progress(desk.name, len(books), "books")) as progress:
+        jobs_at_once = arguments.jobs or len(os.sched_getaffinity(0))
+        try:
+            records.clear(folder)
+            outcomes = Night(program, folder, progress.done).outcomes(books, jobs_at_once)
+            records.put(folder, books, outcomes, str(program.path), time.monotonic() - begun)
+        except OSError as error:
+            raise Stop(Status.NOT_WRITTEN, f"{arguments.out} cannot be written to: {reason_of(error)}") from error
     greatest = max(it.status for it in outcomes)
     try:
         desk.write(*(f"{line}\n" for line in summary(books, outcomes)))

@@ -15,6 +15,7 @@ from collections.abc import Iterator
 from pathlib import Path
 
 from .. import tables
+from ..counts import count_up_to
 from ..desk import Desk
 from ..program import Status, Stop, reason_of
 
@@ -22,15 +23,9 @@ EACH = b"*"
 MOST_PARTS = 99_999
 
 
-def a_count(text: str) -> int:
-    if not (text.isascii() and text.isdigit() and len(text) < 10 and 0 < int(text) <= MOST_PARTS):
-        raise argparse.ArgumentTypeError(f"{text} is not a number from 1 to {MOST_PARTS:,}")
-    return int(text)
-
-
 def configure(parser: argparse.ArgumentParser) -> None:
     parser.add_argument("set", metavar="SET", type=Path, help="a table of scenarios")
-    parser.add_argument("parts", metavar="PARTS", type=a_count, help="how many tables there are to be at most")
+    parser.add_argument("parts", metavar="PARTS", type=count_up_to(MOST_PARTS), help="how many tables there are to be at most")
     parser.add_argument("folder", metavar="FOLDER", type=Path, help="where the tables go")
 
 

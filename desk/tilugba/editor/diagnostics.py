@@ -88,7 +88,7 @@ def of_a_told_fault(document: Document, cause: BadText) -> Json:
 
 def of_a_refusal(document: Document, refusal: Refusal) -> Json:
     """A refusal at its node, up to the end of the node's first line."""
-    note = refusals.note_of("", document.data, document.reading.grammar, refusal)
+    note = refusals.note_of("", document.reading, refusal)
     at = document.reading.source.at(note.place) if note.place else 0
     end = at + len(document.data[at:].split(b"\n", 1)[0])
     return diagnostic(document, at, end, ERROR, refusal.rule, "\n".join([note.title, *note.lines]))

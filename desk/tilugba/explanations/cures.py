@@ -152,7 +152,7 @@ def of_a_choice(scene: Scene) -> str | None:
     words = scene.fault.offers.words
     if scene.token.text in ("then", ",") and "within" in words:
         return "contracts say how long they look: if E within 0 then .. else .. looks today alone; numbers have if(E, a, b)"
-    if scene.token.text == ";" and "else" in words:
+    if scene.token.text in (";", ")", ",", "") and words == ["else"] and scene.innermost == "if":
         return "an `if` of contracts has an `else`: perhaps else zero"
     return None
 
@@ -167,7 +167,7 @@ def of_too_many(scene: Scene) -> str | None:
     if form in ("both", "add", "min", "max"):
         return f"`{form}` takes two: {form}(a, {form}(b, c))"
     if form in ("scale", "after", "cut", "round", "div", "widen", "obs", "model", "neg", "not", "if", "acc"):
-        return f"`{form}` has a comma too many, or a number in it has one"
+        return f"`{form}` has all that it takes: a `)` is missing before this comma, or there is a comma too many in it"
     return None
 
 

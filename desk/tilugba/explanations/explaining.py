@@ -34,6 +34,7 @@ from ..texts.reading import Reading
 from .notes import Note
 
 if TYPE_CHECKING:
+    from ..desk import Desk
     from .rows import Table
 
 LAST_DAY, LAST_NEW_DAY = 1_100_000, 1_000_000
@@ -109,6 +110,12 @@ def notes_of(run: Run) -> Iterator[Note]:
             yield Note("tilugba", fault.message)
 
 
+def tell_fault(desk: Desk, words: Sequence[str], answer: Answer, kept: dict[str, bytes]) -> int:
+    """Tells the fault of a run of a subcommand on standard error, as `explain` does, and returns its status."""
+    desk.tell(line for note in notes_of(Run(words, desk.program, answer, kept)) for line in note.told())
+    return answer.status
+
+
 def usage_note(run: Run) -> Note:
     from . import usage
 
@@ -118,13 +125,13 @@ def usage_note(run: Run) -> Note:
 def text_note(run: Run, cause: BadText) -> Note:
     from . import text_faults
 
-    return text_faults.note_of(run.text_file, run.data(run.text_file), run.grammar, cause)
+    return text_faults.note_of(run.text_file, run.reading, cause)
 
 
 def refused_note(run: Run, refusal: Refusal) -> Note:
     from . import refusals
 
-    return refusals.note_of(run.text_file, run.data(run.text_file), run.grammar, refusal)
+    return refusals.note_of(run.text_file, run.reading, refusal, run.asked.settings)
 
 
 def table_of(run: Run, place: int) -> Table:
@@ -150,9 +157,7 @@ def missing_note(run: Run, cause: MissingFixing) -> Note:
     options = ["--until", until] if until else []
     if run.asked.command in ("advance", "novate"):
         options = until_before(run)
-    asked = missing.Asked(
-        run.text_file, run.data(run.text_file), run.grammar, (*behind, *options), are_contracts=run.text_role == BOOK
-    )
+    asked = missing.Asked(run.text_file, run.reading, (*behind, *options), are_contracts=run.text_role == BOOK)
     tables = [place for place, role in enumerate(run.asked.form.files[: len(run.asked.files)], 1) if role in (FIX, SCEN)]
     calendar = Calendar(run.reading.declared.origin)
     cures = [rows.serial_date(table_of(run, place), cause.label, calendar) for place in tables]

@@ -35,7 +35,8 @@ def shown(source: Source, place: Place) -> Iterator[str]:
     """The line of a place, and a caret below the place."""
     line = source.line(place.line) if place.line <= len(source.starts) else b""
     at = min(place.column - 1, len(line))
-    before, behind = displayed(line[:at]), displayed(line[at:])
+    # A character has at most four bytes, and one of which a part is cut off is not shown in any case.
+    before, behind = displayed(line[max(at - 4 * WIDEST, 0) : at]), displayed(line[at : at + 4 * WIDEST])
     if len(before) > BEFORE and len(before) + len(behind) > WIDEST:
         before = "..." + before[len(before) - BEFORE :]
     if len(before) + len(behind) > WIDEST:

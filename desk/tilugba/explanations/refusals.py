@@ -2,14 +2,15 @@
 
 from __future__ import annotations
 
-from collections.abc import Callable, Iterator
-from dataclasses import dataclass
+from collections.abc import Callable, Iterator, Mapping
+from dataclasses import dataclass, replace
+from types import MappingProxyType
 
 from ..program import Refusal
 from ..texts import trees
-from ..texts.grammar import SCHEDULES, Grammar
-from ..texts.measures import Kind, Measures, wanted_sorts
-from ..texts.names import Declared, NameSet
+from ..texts.grammar import CODE, SCHEDULES
+from ..texts.measures import Kind, Measures, date_of, wanted_sorts
+from ..texts.names import Declarations, Declared, NameSet
 from ..texts.offers import number_told
 from ..texts.reading import Reading
 from ..texts.trees import Term
@@ -17,7 +18,16 @@ from .notes import Note, counted, listed
 from .text_faults import shortened
 
 GREATEST_SCALE = 27
+NONE_SET: Mapping[str, int] = MappingProxyType({})
 LIMITS = {"height": 200, "nodes": 100_000, "days": 100_000, "reach": 100_000, "past": 1_000_000, "steps": 10_000_000}
+# Code has others of its own, and no reach and no past: its dates are limited, each by itself.
+LIMITS_OF_CODE = {"height": 400, "nodes": 200_000, "days": 100_000, "reach": 100_000, "steps": 10_000_000}
+GREATEST_DATE, GREATEST_LOOP = 2_000_000, 100_000
+RULES_OF_CODE = {
+    "scale": "what is paid has no more decimals than amounts, and no number has more than 27",
+    "size": "code has limits of nodes, height, days, dates and steps, at the numbers of its templates",
+    "bound": "the bounds of what is observed show that no number grows too great, that no divisor is 0, and that payments stay small",
+}
 RULES = {
     "sort": "numbers and truth values stand where they are asked for",
     "time": "nothing is paid by what is not known yet on the day of the payment",
@@ -47,22 +57,30 @@ class Node:
         return shortened(" ".join(text.split()))
 
 
-def note_of(file: str, data: bytes, grammar: Grammar, refusal: Refusal) -> Note:
-    """The explanation of a refusal."""
-    reading = Reading(data, grammar)
+def note_of(file: str, reading: Reading, refusal: Refusal, settings: Mapping[str, int] = NONE_SET) -> Note:
+    """The explanation of a refusal, of code at the numbers that the settings give its templates."""
     title = f"{refusal.name} is refused by the rule {refusal.rule}"
     number = reading.definition(refusal.name)
-    if grammar is SCHEDULES or number is None:
+    if reading.grammar is SCHEDULES or number is None:
         return plan_note(file, reading, title, number, refusal)
     base, term = reading.segments[number].at, reading.read(number).statement.term
     found = next((it for at, it in enumerate(term.nodes()) if at == refusal.node), None) if term else None
     if term is None or found is None:
         return Note(file, title)
-    node = Node(reading, Measures(term, reading.declared), base, found)
-    lines = [f"node {refusal.node}: {node.written()}", f"the rule: {RULES.get(refusal.rule, refusal.rule)}"]
+    node = Node(reading, Measures(term, at_setting(reading.declared, settings)), base, found)
+    rules = RULES | RULES_OF_CODE if reading.grammar is CODE else RULES
+    lines = [f"node {refusal.node}: {node.written()}", f"the rule: {rules.get(refusal.rule, refusal.rule)}"]
     tell = TELLERS.get(refusal.rule)
     lines += tell(node) if tell else []
     return Note(file, title, reading.source, reading.source.place(base + found.at), tuple(lines))
+
+
+def at_setting(declared: Declarations, settings: Mapping[str, int]) -> Declarations:
+    """The declarations, with these numbers of templates."""
+    if not settings:
+        return declared
+    templates = {name: replace(it, days=settings.get(name, it.days)) for name, it in declared.names(NameSet.TEMPLATE).items()}
+    return replace(declared, sets=declared.sets | {NameSet.TEMPLATE: templates})
 
 
 def plan_note(file: str, reading: Reading, title: str, number: int | None, refusal: Refusal) -> Note:
@@ -128,7 +146,7 @@ def scale_lines(node: Node) -> Iterator[str]:
         yield from scale_of_expression(node)
         return
     factors = [it for it in term.nodes() if it.form == "scale" and it.sort != trees.EXPRESSION]
-    assets = dict.fromkeys(it.told("asset")[0] for it in term.nodes() if it.form == "pay")
+    assets = dict.fromkeys(it.told("asset")[0] for it in term.nodes() if it.form == "pay" and it.sort == trees.CONTRACT)
     known = {asset: decimals_of(declared.names(NameSet.ASSET)[asset], declared.amounts) for asset in assets}
     allowed = ", ".join([f"amounts have {declared.amounts}", *(f"{asset} has {it}" for asset, it in known.items())])
     told = [f"{node.written(it.parts[0])} has {counted(measures.decimals[it.parts[0].at], 'decimal')}" for it in factors[:5]]
@@ -162,19 +180,33 @@ def scale_of_expression(node: Node) -> Iterator[str]:
 def size_lines(node: Node) -> Iterator[str]:
     """Which of the limits is passed."""
     measures, at = node.measures, node.term.at
-    reach = measures.reaches[at]
+    is_code = node.reading.grammar is CODE
+    reach, moves = measures.reaches[at], "`loop`" if is_code else "`after` and `within`"
     days = int(node.term.told("length")[0]) if node.term.form == "acc" else measures.days_of(node.term)
     found = [
         ("height", measures.heights[at], "is the height, the terms within each other"),
         ("nodes", measures.counts[at], "nodes"),
-        ("days", days, "days in one `after` or `within`"),
-        ("reach", reach, "days of `after` and `within` added up along a path"),
+        ("days", days, "days in one `after`, `within` or `acc`"),
+        ("reach", reach, f"days of {moves} added up along a path"),
         ("past", reach + measures.pasts[at], "days of reach and of looking back together"),
         ("steps", measures.works[at], "steps to evaluate: a test counts for each day on which it may be tried"),
     ]
+    limits = LIMITS_OF_CODE if is_code else LIMITS
     for limit, number, what in found:
-        if number > LIMITS[limit]:
-            yield f"{number:,} {what}; the limit is {LIMITS[limit]:,}"
+        if limit in limits and number > limits[limit]:
+            yield f"{number:,} {what}; the limit is {limits[limit]:,}"
+    if is_code:
+        yield from date_lines(node)
+
+
+def date_lines(node: Node) -> Iterator[str]:
+    """Whether the date of a part of code is out of range, with what its templates add."""
+    term = node.term
+    if term.told("date"):
+        low, most = (0, GREATEST_LOOP) if term.form == "loop" else (-GREATEST_DATE, GREATEST_DATE)
+        date = date_of(term, node.measures.declared)
+        if not low <= date <= most:
+            yield f"the date of `{term.form}` is {date:,}; it is from {low:,} to {most:,}"
 
 
 def bound_lines(node: Node) -> Iterator[str]:
@@ -189,6 +221,8 @@ def bound_lines(node: Node) -> Iterator[str]:
         divisor = node.written(node.term.parts[1])
         yield f"the divisor {divisor} may be 0 by these bounds, or the quotient too great"
         yield f"narrow the bounds, or divide by max({divisor}, ..)"
+    elif node.term.sort == trees.AMOUNT:
+        yield "code is worth at most 10^37, counted in units of amounts with 9 decimals more: narrow the bounds, or round earlier"
     elif node.term.sort != trees.EXPRESSION:
         yield "a contract pays at most 10^27 and no number is above 10^37, counted in the last decimal: narrow the bounds, or round earlier"
     else:

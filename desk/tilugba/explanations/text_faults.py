@@ -4,7 +4,6 @@ from __future__ import annotations
 
 from ..program import BadText
 from ..texts import tokens
-from ..texts.grammar import Grammar
 from ..texts.machine import Fault
 from ..texts.reading import Reading
 from ..texts.tokens import BYTE_ORDER_MARK, Place
@@ -22,9 +21,8 @@ REASONS = {
 }
 
 
-def note_of(file: str, data: bytes, grammar: Grammar, cause: BadText) -> Note:
+def note_of(file: str, reading: Reading, cause: BadText) -> Note:
     """The explanation of a fault that the program has told."""
-    reading = Reading(data, grammar)
     place = Place(cause.line, cause.column)
     fault = fault_at(reading, place, cause.kind)
     lines = told(reading, fault) if fault else ()

@@ -9,13 +9,14 @@ import signal
 import subprocess
 import threading
 import time
-from collections.abc import Iterator, Sequence
+from collections.abc import Callable, Iterator, Sequence
 from concurrent.futures import Future, ThreadPoolExecutor
 from contextlib import contextmanager
-from dataclasses import dataclass
+from dataclasses import dataclass, replace
 from types import FrameType
 
 from ..program import Program, Status, Stop, reason_of
+from ..receipts import Sum
 from .books import Book, refused
 from .folder import Folder, remove
 from .sums import Sums
@@ -58,12 +59,27 @@ def signals_raised() -> Iterator[None]:
 
 
 @dataclass(frozen=True)
+class Made:
+    """What a result depends on, besides the words: the files of a book by the places of their names, and the program."""
+
+    files: dict[int, Sum]
+    program: Sum
+
+    def key(self, book: Book) -> str:
+        words = [(1, self.files[place].sha256) if place in self.files else (0, word) for place, word in enumerate(book.words)]
+        return hashlib.sha256(json.dumps([FORM_OF_KEYS, self.program.sha256, words]).encode()).hexdigest()
+
+
+@dataclass(frozen=True)
 class Outcome:
-    """What became of a book: a status, a line that says most of it, and whether it was done before."""
+    """What became of a book: a status, a line that says most of it, whether it was done before, and what it was made of."""
 
     status: int
     line: str = ""
     was_done: bool = False
+    made: Made | None = None
+    printed: Sum | None = None
+    time: float = 0
 
 
 DONE = Outcome(Status.DONE)
@@ -87,8 +103,9 @@ def tried(program: Program) -> Program:
 class Night:
     """Runs of a program on books, with a folder for the results."""
 
-    def __init__(self, program: Program, folder: Folder) -> None:
-        self.program, self.folder = program, folder
+    def __init__(self, program: Program, folder: Folder, done: Callable[[], None] = lambda: None) -> None:
+        """`done` hears of each book that has an outcome at the first try."""
+        self.program, self.folder, self.done = program, folder, done
         self.sums = Sums()
         self.turn = threading.Lock()
         self.running = set[subprocess.Popen[bytes]]()
@@ -96,19 +113,20 @@ class Night:
 
     def outcomes(self, books: Sequence[Book], jobs: int) -> list[Outcome]:
         """What becomes of the books, of which those that the machine made fail are tried once more, alone."""
-        found = self.settle_all(books, jobs)
+        found = self.settle_all(books, jobs, self.done)
         again = [place for place, it in enumerate(found) if it.status not in FINAL]
-        for place, outcome in zip(again, self.settle_all([books[place] for place in again], 1)):
+        for place, outcome in zip(again, self.settle_all([books[place] for place in again], 1, lambda: None)):
             found[place] = outcome
         return found
 
-    def settle_all(self, books: Sequence[Book], jobs: int) -> list[Outcome]:
+    def settle_all(self, books: Sequence[Book], jobs: int, done: Callable[[], None]) -> list[Outcome]:
         """What becomes of these books. It waits in the main thread, where signals come."""
         with ThreadPoolExecutor(jobs) as pool:
             waiting: list[Future[Outcome]] = []
             try:
                 for book in books:
                     waiting.append(pool.submit(self.settle, book))
+                    waiting[-1].add_done_callback(lambda _: done())
                 return [it.result() for it in waiting]
             except Signalled:
                 for it in waiting:
@@ -126,16 +144,16 @@ class Night:
     def settle(self, book: Book) -> Outcome:
         """Does what a book asks for."""
         try:
-            key = self.key_of(book)
-            if key and self.folder.has(book, key):
+            made = self.made_of(book)
+            if made and self.folder.has(book, made.key(book)):
                 self.folder.drop_fault(book)
-                return Outcome(Status.DONE, was_done=True)
+                return Outcome(Status.DONE, was_done=True, made=made, time=os.stat(self.folder.at(book.name)).st_mtime)
             self.folder.clear(book)
             if book.has_special_file():
                 return self.unread(book, "a file is no plain file")
             part = self.folder.new_part()
             try:
-                return self.run_into(part, book, key)
+                return self.run_into(part, book, made)
             finally:
                 remove(part)
         except MemoryError:
@@ -143,31 +161,28 @@ class Night:
         except OSError as error:
             return Outcome(Status.NOT_WRITTEN, reason_of(error))
 
-    def key_of(self, book: Book) -> str | None:
+    def made_of(self, book: Book) -> Made | None:
         """What the result of a book depends on, or nothing if a file cannot be read."""
-        words: list[tuple[int, str | None]] = [(0, word) for word in book.words]
-        for place, file in book.files.items():
-            words[place] = 1, self.sums.of(file)
-            if not words[place][1]:
-                return None
-        told = [FORM_OF_KEYS, self.sums.of(str(self.program.path)), words]
-        return hashlib.sha256(json.dumps(told).encode()).hexdigest()
+        program = self.sums.summed(str(self.program.path))
+        files = {place: self.sums.summed(file) for place, file in book.files.items()}
+        found = {place: it for place, it in files.items() if it}
+        return Made(found, program) if program and len(found) == len(files) else None
 
     def unread(self, book: Book, line: str) -> Outcome:
         self.folder.keep_fault(book, Status.UNREAD)
         return Outcome(Status.UNREAD, line)
 
-    def run_into(self, part: str, book: Book, key: str | None) -> Outcome:
+    def run_into(self, part: str, book: Book, made: Made | None) -> Outcome:
         """Runs the program with its output in a new file, and keeps that or the fault."""
         status = self.run(book, part)
         if self.is_stopped:
             return DONE
         if status:
-            return self.fault(book, status, part)
-        if self.key_of(book) != key:
+            return replace(self.fault(book, status, part), made=made, time=time.time())
+        if self.made_of(book) != made:
             return self.unread(book, "a file changed while it was read")
-        self.folder.keep(book, key, part)
-        return DONE
+        self.folder.keep(book, made and made.key(book), part)
+        return Outcome(Status.DONE, made=made, time=time.time())
 
     def run(self, book: Book, part: str) -> int:
         """The status of a run."""
@@ -193,4 +208,4 @@ class Night:
         self.folder.keep_fault(book, status, printed)
         lines = printed.decode("utf-8", "replace").splitlines()
         told = next((line for line in lines if line.split(" ")[1:2] == ["refused"]), lines[0] if lines else "")
-        return Outcome(status, told)
+        return Outcome(status, told, printed=Sum.of(None, printed) if printed else None)

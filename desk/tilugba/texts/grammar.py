@@ -5,6 +5,7 @@ A form is written with a blank between its parts. What is in capitals is a part 
 
 from __future__ import annotations
 
+from collections.abc import Mapping
 from dataclasses import dataclass
 
 from .names import NameSet
@@ -117,12 +118,12 @@ PARTS: dict[str, Part] = {
 }
 
 
-def form(written: str) -> Form:
+def form(written: str, parts: Mapping[str, Part] = PARTS) -> Form:
     """The parts of a form."""
-    return tuple(PARTS[word] if word in PARTS else Exactly(word) for word in written.split())
+    return tuple(parts[word] if word in parts else Exactly(word) for word in written.split())
 
 
-def expression_heads(expression: str, read: str, time: str) -> dict[str, Form]:
+def expression_heads(expression: str, read: str, time: str, parts: Mapping[str, Part] = PARTS) -> dict[str, Form]:
     """The forms of expressions by their first tokens, with the word that reads a label and when it is read."""
     written = {
         "true": "",
@@ -141,39 +142,44 @@ def expression_heads(expression: str, read: str, time: str) -> dict[str, Form]:
         "acc": "( BINDER , BIND E UNBIND , LENGTH , E )",
     }
     named = {head: [expression if it == "E" else it for it in said.split()] for head, said in written.items()}
-    return {head: form(" ".join([*said, "CLOSE"])) for head, said in named.items()}
+    return {head: form(" ".join([*said, "CLOSE"]), parts) for head, said in named.items()}
 
 
-def heads(**written: str) -> dict[str, Form]:
-    return {head: form(said + " CLOSE") for head, said in written.items()}
+def heads(written: Mapping[str, str], parts: Mapping[str, Part] = PARTS) -> dict[str, Form]:
+    return {head: form(said + " CLOSE", parts) for head, said in written.items()}
+
+
+CONTRACT_FORMS = {
+    "zero": "",
+    "pay": "( ASSET , PAYER , RECEIVER )",
+    "both": "( CONTRACT , CONTRACT )",
+    "scale": "( EXPRESSION , CONTRACT )",
+    "after": "( DAYS , CONTRACT )",
+    "let": "BINDER = EXPRESSION in BIND CONTRACT UNBIND",
+    "if": "EXPRESSION within DAYS then CONTRACT else CONTRACT",
+}
+AMOUNT_FORMS = {
+    "none": "",
+    "pay": "( DATE TEMPLATES , ASSET , PAYER , RECEIVER )",
+    "add": "( AMOUNT , AMOUNT )",
+    "scale": "( CODE_EXPRESSION , AMOUNT )",
+    "let": "BINDER = CODE_EXPRESSION in BIND AMOUNT UNBIND",
+    "loop": "CODE_EXPRESSION upto DATE TEMPLATES then AMOUNT else AMOUNT",
+    "cut": "( DATE TEMPLATES , AMOUNT )",
+}
 
 
 EXPRESSION_OF_CONTRACTS.heads = expression_heads("EXPRESSION", "obs", "OFFSET")
 EXPRESSION_OF_CODE.heads = expression_heads("CODE_EXPRESSION", "model", "DATE TEMPLATES")
-CONTRACT_TERM.heads = heads(
-    zero="",
-    pay="( ASSET , PAYER , RECEIVER )",
-    both="( CONTRACT , CONTRACT )",
-    scale="( EXPRESSION , CONTRACT )",
-    after="( DAYS , CONTRACT )",
-    let="BINDER = EXPRESSION in BIND CONTRACT UNBIND",
-    **{"if": "EXPRESSION within DAYS then CONTRACT else CONTRACT"},
-)
-AMOUNT_TERM.heads = heads(
-    none="",
-    pay="( DATE TEMPLATES , ASSET , PAYER , RECEIVER )",
-    add="( AMOUNT , AMOUNT )",
-    scale="( CODE_EXPRESSION , AMOUNT )",
-    let="BINDER = CODE_EXPRESSION in BIND AMOUNT UNBIND",
-    loop="CODE_EXPRESSION upto DATE TEMPLATES then AMOUNT else AMOUNT",
-    cut="( DATE TEMPLATES , AMOUNT )",
-)
+CONTRACT_TERM.heads = heads(CONTRACT_FORMS)
+AMOUNT_TERM.heads = heads(AMOUNT_FORMS)
 
 
 def leg(times: str) -> str:
     return f"SIZE of ASSET from PAYER to RECEIVER first FIRST every EVERY times {times}"
 
 
+TEMPLATE_LINE, CONTRACT_LINE = "NEW_TEMPLATE = TEMPLATE_DAYS ;", "NEW_CONTRACT = CONTRACT ;"
 PARTS["SIZE"] = Size(A_NUMBER, form("( MODE , PLACES , NUMBER_LABEL , LAG , NUMBER )"))
 PARTS |= {
     "ORIGIN_LINE": Lines(False, origin=form("ORIGIN ;")),
@@ -181,8 +187,8 @@ PARTS |= {
     "PARTY_LINES": Lines(True, party=form("NEW_PARTY MORE_PARTIES ;")),
     "ASSET_LINES": Lines(True, asset=form("NEW_ASSET DECIMALS MORE_ASSETS ;")),
     "LABEL_LINES": Lines(True, num=form("NEW_LABEL : SCALE in LOWER .. UPPER ;"), flag=form("NEW_LABEL ;")),
-    "TEMPLATE_LINES": Lines(True, template=form("NEW_TEMPLATE = TEMPLATE_DAYS ;")),
-    "CONTRACT_LINES": Lines(True, contract=form("NEW_CONTRACT = CONTRACT ;")),
+    "TEMPLATE_LINES": Lines(True, template=form(TEMPLATE_LINE)),
+    "CONTRACT_LINES": Lines(True, contract=form(CONTRACT_LINE)),
     "PLAN_LINES": Lines(
         True,
         leg=form(f"NEW_CONTRACT = {leg('TIMES')} ;"),
@@ -192,11 +198,13 @@ PARTS |= {
 }
 DECLARATIONS = "amounts AMOUNTS ; ORIGIN_LINE START_LINE PARTY_LINES ASSET_LINES LABEL_LINES TEMPLATE_LINES"
 
+PORTFOLIO_TEXT, FURTHER_CONTRACTS = f"portfolio ONE_OR_TWO ; {DECLARATIONS} CONTRACT_LINES END", "CONTRACT_LINES END"
+
 PORTFOLIO = Grammar(
     "portfolio",
     "portfolio",
-    form(f"portfolio ONE_OR_TWO ; {DECLARATIONS} CONTRACT_LINES END"),
-    form("CONTRACT_LINES END"),
+    form(PORTFOLIO_TEXT),
+    form(FURTHER_CONTRACTS),
     frozenset({"contract"}),
 )
 CODE = Grammar(

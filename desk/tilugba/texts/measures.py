@@ -133,8 +133,15 @@ class Measures:
 
     @cached_property
     def reaches(self) -> dict[int, int]:
-        """The days by which the latest part of each contract may stand later than it."""
-        return folded(self.term, lambda term, parts: self.days_of(term) + max(parts, default=0))
+        """The days by which the latest part of each contract may stand later than it. A `loop` of code moves only what it enters once its
+        test is true."""
+
+        def of(term: Term, parts: list[int]) -> int:
+            if term.form == "loop":
+                return max(self.loop_days(term) + parts[1], parts[2])
+            return self.days_of(term) + max(parts, default=0)
+
+        return folded(self.term, of)
 
     @cached_property
     def pasts(self) -> dict[int, int]:
@@ -159,11 +166,16 @@ class Measures:
                 return 1 + parts[1] + int(term.told("length")[0]) * parts[0]
             if term.sort == trees.EXPRESSION:
                 return 1 + sum(parts)
-            if term.form == "if":
-                return (self.days_of(term) + 1) * parts[0] + parts[1] + parts[2]
+            if term.form in ("if", "loop"):
+                days = self.days_of(term) if term.form == "if" else self.loop_days(term)
+                return (days + 1) * parts[0] + parts[1] + parts[2]
             return sum(parts)
 
         return folded(self.term, of)
+
+    def loop_days(self, term: Term) -> int:
+        """The days of a `loop`, none if its number is below 0."""
+        return max(date_of(term, self.declared), 0)
 
     def days_of(self, term: Term) -> int:
         """The days of an `after` or a `within`, with those of the templates."""
@@ -171,6 +183,12 @@ class Measures:
             return 0
         templates = self.declared.names(NameSet.TEMPLATE)
         return sum(int(it) for it in term.told("days")) + sum(templates[it].days or 0 for it in term.told("template"))
+
+
+def date_of(term: Term, declared: Declarations) -> int:
+    """The number of a date of code, with those of its templates."""
+    templates = declared.names(NameSet.TEMPLATE)
+    return sum(int(it) for it in term.told("date")) + sum(templates[it].days or 0 for it in term.told("template"))
 
 
 def wanted_sorts(term: Term) -> list[str]:

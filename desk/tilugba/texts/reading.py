@@ -105,6 +105,8 @@ class Reading:
         self.declared = Declarations()
         self.memory = memory if memory is not None else Memory()
         self.remembered: dict[str, Read] = {}
+        # The first and the last definition, which are not remembered by their text.
+        self.at_ends: dict[int, Read] = {}
         self.header: list[Read] = []
         self.stack: list[Part] = list(reversed(self.grammar.text))
         self.is_broken = False
@@ -163,7 +165,9 @@ class Reading:
             return self.header[number]
         # What may stand before the first definition is more than before the others, and more is expected of the last segment.
         if number == len(self.header) or number == len(self.segments) - 1:
-            return self.read_definition(number)
+            if number not in self.at_ends:
+                self.at_ends[number] = self.read_definition(number)
+            return self.at_ends[number]
         written = self.slice(number)
         read = self.remembered.get(written)
         if read is None:

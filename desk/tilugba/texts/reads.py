@@ -9,8 +9,8 @@ from collections.abc import Iterator
 from dataclasses import dataclass
 
 from . import trees
-from .measures import Measures
-from .names import Declarations, NameSet
+from .measures import Measures, date_of
+from .names import Declarations
 from .trees import Term
 
 
@@ -68,12 +68,6 @@ def parts_of(found: Placed, measures: Measures) -> Iterator[Placed]:
     else:
         for part in term.parts:
             yield Placed(part, days)
-
-
-def date_of(term: Term, declared: Declarations) -> int:
-    """The number of a date of code, with those of its templates."""
-    templates = declared.names(NameSet.TEMPLATE)
-    return sum(int(it) for it in term.told("date")) + sum(templates[it].days or 0 for it in term.told("template"))
 
 
 def reads_of(term: Term, declared: Declarations) -> Iterator[tuple[str, Days]]:

@@ -29,6 +29,8 @@ TOKEN = re.compile(
     r"|(?P<date>[0-9]{4}-[0-9]{2}-[0-9]{2}(?![0-9]))|(?P<number>[0-9]+(?:[.][0-9]+)?)"
     r"|(?P<mark>[<>!]=|[.][.]|[-;,:=()+*<>&|])|(?P<end>\Z)|(?P<stray>))"
 )
+# The kinds by the groups of the pattern, from 1.
+KINDS = ("", WORD, DATE, NUMBER, MARK, END, STRAY)
 
 
 class Token(NamedTuple):
@@ -45,13 +47,14 @@ class Token(NamedTuple):
 
 def tokens(text: str, at: int = 0, end: int | None = None) -> Iterator[Token]:
     """The tokens of a part of a text, up to its end or to a byte at which none begins, which is the last one."""
+    # A long text is mostly read here, so a token is made without a call of its own.
+    make = tuple.__new__
     for found in TOKEN.finditer(text, at, len(text) if end is None else end):
-        kind = found.lastgroup
-        written = found[kind]
-        if kind == WORD and written not in RESERVED:
-            kind = NAME
-        yield Token(kind, written, found.start(found.lastgroup))
-        if kind == STRAY or kind == END:
+        group = found.lastindex
+        written = found[group]
+        kind = NAME if group == 1 and written not in RESERVED else KINDS[group]
+        yield make(Token, (kind, written, found.start(group)))
+        if kind is STRAY or kind is END:
             return
 
 
