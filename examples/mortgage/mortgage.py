@@ -1,7 +1,8 @@
 """A mortgage with one payment a month as a portfolio: python3 mortgage.py PRINCIPAL RATE MONTHS DATE > mortgage.txt
 
 RATE is the rate of a year in percent, of which a twelfth is paid each month on what is owed. All payments are alike except for the
-last, which pays what is left. Each is on the day of DATE in its month, or on the last day of a month that is shorter.
+last, which pays what is left. Each is on the day of DATE in its month, or on the last day of a month that is shorter. If banks are closed
+on that day, it is on the next one on which they are open (the convention "following", by the calendar of TARGET).
 """
 
 import calendar
@@ -24,11 +25,28 @@ def payments(principal, rate, months):
     yield owed + cents(owed * rate)
 
 
+def easter(year):
+    """Easter Sunday (Gauss's rule, as it holds from 1900 to 2099)."""
+    moon = (19 * (year % 19) + 24) % 30
+    days = moon + (2 * (year % 4) + 4 * (year % 7) + 6 * moon + 5) % 7
+    days -= 7 if days == 35 or (days == 34 and moon == 28 and year % 19 > 10) else 0
+    return datetime.date(year, 3, 22) + datetime.timedelta(days)
+
+
+def is_closed(day):
+    """Whether the day is a weekend or a holiday of TARGET."""
+    fixed = (day.month, day.day) in ((1, 1), (5, 1), (12, 25), (12, 26))
+    return day.weekday() > 4 or fixed or (day - easter(day.year)).days in (-2, 1)
+
+
 def days_to(first, months):
-    """The days from a date to the same day so many months later."""
+    """The days from a date to the same day so many months later, or to the next day on which banks are open."""
     year, month = divmod(first.year * 12 + first.month - 1 + months, 12)
     last = calendar.monthrange(year, month + 1)[1]
-    return (datetime.date(year, month + 1, min(first.day, last)) - first).days
+    day = datetime.date(year, month + 1, min(first.day, last))
+    while is_closed(day):
+        day += datetime.timedelta(1)
+    return (day - first).days
 
 
 def balanced(contracts):

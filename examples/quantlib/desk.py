@@ -1,7 +1,7 @@
 """A bond, a swap and an option of QuantLib as files of the folder in which it is run: python3 desk.py"""
 
 import QuantLib as ql
-from bridge import Bridge, factors
+from tilugba.terms.legs import Legs, factors
 
 
 def dates(start, end, tenor):
@@ -22,13 +22,14 @@ halves = dates(ql.Date(15, 1, 2025), ql.Date(15, 1, 2028), "6m")
 swap = ql.VanillaSwap(ql.Swap.Payer, 5e6, halves, 0.024, ql.Thirty360(ql.Thirty360.BondBasis), halves, euribor, 0.0, ql.Actual360())
 call = ql.PlainVanillaPayoff(ql.Option.Call, 1.17)
 
-desk = Bridge(today, ["Desk", "Bank", "Issuer"], ["EUR"], rates=12)
-desk.contract("bond", (bond.cashflows(), "EUR", "Issuer", "Desk"))
-desk.contract("swap", (swap.fixedLeg(), "EUR", "Desk", "Bank"), (swap.floatingLeg(), "EUR", "Bank", "Desk"))
-desk.option("call", call, ql.Date(30, 6, 2026), desk.label("EURUSD", 4, ("0.5", "2.5")), 1e5, "EUR", "Bank", "Desk")
+legs = Legs(today, rate_decimals=12)
+legs.add_leg("bond", bond.cashflows(), "EUR", "Issuer", "Desk")
+legs.add_leg("swap", swap.fixedLeg(), "EUR", "Desk", "Bank")
+legs.add_leg("swap", swap.floatingLeg(), "EUR", "Bank", "Desk")
+legs.add_option("call", call, ql.Date(30, 6, 2026), "EURUSD", 1e5, "EUR", "Bank", "Desk")
 
 paid = [flow.date() for leg in (bond.cashflows(), swap.fixedLeg(), swap.floatingLeg()) for flow in leg]
-for name, text in (("book.txt", desk.portfolio()), ("observed.csv", desk.table()), ("assumed.csv", desk.table(with_assumed=True)),
+for name, text in (("rows.csv", legs.table()), ("observed.csv", legs.fixings_table()), ("assumed.csv", legs.fixings_table(with_assumed=True)),
                    ("curve.csv", factors(curve, today, paid))):
     with open(name, "w", encoding="utf-8") as file:
         file.write(text)

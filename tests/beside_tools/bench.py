@@ -70,3 +70,6 @@ class Dice:
 
     def one(self, things):
         return things[self.below(len(things))]
+
+    def chance(self):
+        return self.below(2) == 1

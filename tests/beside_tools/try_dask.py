@@ -5,10 +5,12 @@ import os
 import subprocess
 import sys
 import tempfile
+import time
 from fractions import Fraction
 
 import bench
 import books
+import histories
 import processes
 from bench import read, run, write
 
@@ -50,7 +52,8 @@ class Cluster:
         return processes.start(words, os.path.join(self.room, f"{kind}.said"), cwd=self.room, env={**os.environ, **settings})
 
     def add(self, name, most=10 ** 9, pause=0):
-        settings = {"TILUGBA": os.path.join(self.room, "program"), "PLAIN": self.program, "LOG": self.log}
+        settings = {"TILUGBA": os.path.join(self.room, "program"), "PLAIN": self.program, "LOG": self.log, "PYTHONPATH": histories.DESK}
+        settings["TILUGBA_LIBRARY"] = ""
         words = self.address, "--name", name, "--host", "127.0.0.1", "--nthreads", "1", "--no-nanny"
         self.workers[name] = self.start("dask_worker", *words, NAME=name, MOST=str(most), PAUSE=str(pause), **settings)
 
@@ -229,6 +232,38 @@ def try_lost_worker(own, cluster, room, client, want):
     own.judge(sum(cluster.runs().values()) > 60, "Dask, a set with a lost worker: nothing was run again")
 
 
+def try_history(own, cluster, room, client):
+    """A history over two workers is that of this machine, also if one of them is lost on the way, or both."""
+    plain = {**os.environ, "PLAIN": cluster.program, "LOG": os.path.join(room, "own.log"), "NAME": "own", "MOST": str(10 ** 9), "PAUSE": "0"}
+    for key in ("TILUGBA_LIBRARY", "TILUGBA"):
+        plain.pop(key, None)
+    for name in list(cluster.workers):
+        cluster.end(name)
+    for name in ("sixth", "seventh"):
+        cluster.add(name, pause=0.02)
+    own.judge(cluster.is_up(client), "Dask: the workers of a history do not come up")
+    history = histories.History(room, cluster.program)
+    history.program = os.path.join(room, "program")
+    words = history.words("--dask", cluster.address)
+    cluster.runs()
+    begun = time.monotonic()
+    script = subprocess.Popen(words, cwd=history.room, env=plain, stdout=subprocess.PIPE, stderr=subprocess.PIPE)
+    logged = lambda: os.path.exists(cluster.log) and read(cluster.log).count("\n") >= 40
+    own.judge(processes.wait_for(logged, 300), "Dask: no 40 values of a history")
+    cluster.end("sixth")
+    out, said = script.communicate(timeout=600)
+    took = time.monotonic() - begun
+    own.same("Dask, a history with a lost worker", (0, history.want[1]), (script.returncode, out.decode()))
+    asked = sum(cluster.runs().values())
+    own.judge(asked > history.count, f"Dask, a history with a lost worker: nothing was asked again, {asked} of {history.count} in {took:.1f} s: {said}")
+    cluster.add("eighth")
+    own.judge(cluster.is_up(client), "Dask: the eighth worker does not come up")
+    own.same("Dask, a history", (0, history.want[1]), run(*words, folder=history.room, env=plain)[:2])
+    own.same("Dask, a history asks each value once", history.count, sum(cluster.runs().values()))
+    other = run(*history.words("--dask", cluster.address, "--program", cluster.program), folder=history.room, env=plain)
+    own.same("Dask, a worker with another program", (70, ""), other[:2])
+
+
 def main():
     own, program = bench.Bench(), sys.argv[1]
     processes.adopt()
@@ -247,6 +282,7 @@ def main():
                     try_set(own, cluster, room)
                     try_small_worker(own, cluster, room, client, want)
                     try_lost_worker(own, cluster, room, client, want)
+                    try_history(own, cluster, room, client)
         finally:
             own.judge(not processes.end_all(), "Dask: a process would not end")
     own.end()

@@ -105,7 +105,17 @@ def try_positions(own, program):
 
 
 def evening(folder, day, **paths):
-    return run(os.path.join(HERE, "evening"), day, folder=folder, env={**os.environ, **paths})
+    desk = os.path.join(bench.TOP, "desk", "tilugba-desk")
+    return run(os.path.join(HERE, "evening"), day, folder=folder, env={**os.environ, "TILUGBA_DESK": desk, **paths})
+
+
+def a_desk(text, table):
+    """A folder for the job, with a book and a table of fixings."""
+    folder = tempfile.mkdtemp(dir=".")
+    rules = {name: read(HERE, name) for name in ("flows.rules", "corrections.rules")}
+    for path, content in {"today.txt": text, "fixings.csv": table, **rules}.items():
+        write(content, folder, path)
+    return folder
 
 
 def booked(folder):
@@ -116,40 +126,69 @@ def booked(folder):
 
 
 def try_evenings(own, program, name, text, table, lines, days):
-    """Evening after evening, each of them twice: all lines that were due are booked, each once."""
-    folder = tempfile.mkdtemp(dir=".")
-    for path, content in (("today.txt", text), ("fixings.csv", table), ("flows.rules", read(HERE, "flows.rules"))):
-        write(content, folder, path)
+    """Evening after evening, and each fifth of them twice: all lines that were due are booked, each once."""
+    folder = a_desk(text, table)
     due = {day: [line for line in split(lines) if line[1] < day] for day in days}
-    for day in days:
-        statuses = [evening(folder, day, TILUGBA=program)[0] for _ in range(2)]
-        own.same(f"{name}, evening {day}", ([0, 0], positions(due[day], 2), len(due[day])), (statuses, *booked(folder)))
+    for number, day in enumerate(days):
+        statuses = {evening(folder, day, TILUGBA=program)[0] for _ in range(1 if number % 5 else 2)}
+        own.same(f"{name}, evening {day}", ({0}, positions(due[day], 2), len(due[day])), (statuses, *booked(folder)))
     own.same(f"{name}: the kept lines are those of flows", sorted(lines.splitlines()), kept_lines(folder))
     return folder
 
 
-def kept_lines(folder):
-    due = os.path.join(folder, "due")
-    return sorted(line for file in os.listdir(due) if file.endswith(".csv") for line in read(due, file).splitlines() if file[0] != ".")
+def kept_lines(folder, name="due.csv"):
+    kept = os.path.join(folder, "kept")
+    files = [os.path.join(kept, step, name) for step in sorted(os.listdir(kept))]
+    return sorted(line for file in files if os.path.exists(file) for line in read(file).splitlines())
+
+
+def try_corrections(own, program, market, count):
+    """Evenings by tables of which rows are wrong for a while: behind each, the journal has what the first book pays by its table."""
+    dice = bench.Dice(count)
+    wrong = books.Market(dice)
+    wrong.fx, wrong.rate = list(market.fx), list(market.rate)
+    book = books.Book(dice, market, 60)
+    folder = a_desk(book.text, "")
+    spoilt = {dice.between(0, 60) for _ in range(40)}
+    for day in spoilt:
+        wrong.fx[day], wrong.rate[day] = dice.between(8000, 11000), dice.between(-500, 9000)
+    write(book.text, "first.txt")
+    for day in range(5, books.DAYS, 9):
+        # Each rate that is wrong at first is right from the second evening behind its day on.
+        seen = books.Market(dice)
+        seen.fx = [wrong.fx[it] if day - it <= 14 else market.fx[it] for it in range(books.DAYS)]
+        seen.rate = [wrong.rate[it] if day - it <= 14 else market.rate[it] for it in range(books.DAYS)]
+        write(seen.table(until=day), folder, "fixings.csv")
+        write(seen.table(until=day), "seen.csv")
+        status, _, said = evening(folder, books.day_text(day), TILUGBA=program)
+        lines = run(program, "flows", "first.txt", "seen.csv", "--until", books.day_text(day - 1))[1]
+        own.same(f"corrections {count}, evening {day}", (0, "", positions(split(lines), 2)), (status, said, booked(folder)[0]))
+    corrections = kept_lines(folder, "corrections.csv")
+    own.judge(len(corrections) > 4, f"corrections {count}: too few lines are corrected: {corrections}")
+    ledger = sorted(kept_lines(folder) + [line[4:] for line in corrections if line.startswith("new,")])
+    for line in [line[5:] for line in corrections if line.startswith("gone,")]:
+        ledger.remove(line)
+    last = [line for line in book.lines().splitlines() if line.split(",")[1] < books.day_text(day)]
+    own.same(f"corrections {count}: all lines, without those that are taken back", sorted(last), ledger)
+    own.same(f"corrections {count}: the journal", len(kept_lines(folder)) + len(corrections), booked(folder)[1])
 
 
 def try_stops(own, program, book, market):
     """A missing fixing leaves all as it was. A job that stops before or behind the import is made good by that of a later day."""
-    folder = tempfile.mkdtemp(dir=".")
     text = "# Positions, 2026\n" + book.text
-    for path, content in (("today.txt", text), ("fixings.csv", market.table(until=5)), ("flows.rules", read(HERE, "flows.rules"))):
-        write(content, folder, path)
+    folder = a_desk(text, market.table(until=5))
     status, _, said = evening(folder, books.day_text(20), TILUGBA=program)
-    own.judge(status == 8 and said.startswith("fault missing "), f"an evening without fixings: status {status}, {said}")
+    own.judge(status == 8 and "missing fixing of " in said, f"an evening without fixings: status {status}, {said}")
     own.same("the book after a fault", (text, 0), (read(folder, "today.txt"), booked(folder)[1]))
     write(market.table(), folder, "fixings.csv")
     paths = {"PATH": os.path.abspath(folder) + ":" + os.environ["PATH"], "HLEDGER": shutil.which("hledger")}
-    for day, stop in ((20, "exit 1"), (60, '"$HLEDGER" "$@"; exit 1'), (90, "kill -KILL $PPID")):
-        # It stops at the lines of this day, and not at those of the evening before.
-        write(f'#!/bin/sh\ncase $* in *due/{day}.csv) {stop};; esac\nexec "$HLEDGER" "$@"\n', folder, "hledger")
+    for step, day, stop in ((1, 20, "exit 1"), (3, 60, '"$HLEDGER" "$@"; exit 1'), (5, 90, "kill -KILL $PPID")):
+        # It stops at the lines of this step, and not at those of the evening before.
+        write(f'#!/bin/sh\ncase $* in *due/{step:04}.due.csv*) {stop};; esac\nexec "$HLEDGER" "$@"\n', folder, "hledger")
         os.chmod(os.path.join(folder, "hledger"), 0o755)
         status = evening(folder, books.day_text(day), TILUGBA=program, **paths)[0]
-        own.judge(status in (1, -9) and f"start {day};" in read(folder, "today.txt"), f"a stop on day {day}: status {status}")
+        kept = read(folder, "kept", f"{step:04}", "book.txt")
+        own.judge(status in (1, -9) and f"start {day};" in kept, f"a stop on day {day}: status {status}")
         later = books.day_text(day + 10)
         due = [line for line in split(book.lines()) if line[1] < later]
         status = evening(folder, later, TILUGBA=program)[0]
@@ -157,6 +196,7 @@ def try_stops(own, program, book, market):
     status = evening(folder, books.day_text(books.DAYS), TILUGBA=program)[0]
     own.same("the last evening", (0, positions(split(book.lines()), 2), len(book.paid)), (status, *booked(folder)))
     own.same("the kept lines after stops", sorted(book.lines().splitlines()), kept_lines(folder))
+    own.judge(f"start {books.DAYS};" in read(folder, "today.txt"), "the last evening leaves no book of its day")
 
 
 def main():
@@ -171,11 +211,13 @@ def main():
         try_positions(own, program)
         month = os.path.join(bench.EXAMPLES, "desk_month")
         lines = run(program, "flows", "book.txt", "fixings.csv", folder=month)[1]
-        days = [f"2026-01-{day:02}" for day in range(2, 32)] + ["2026-02-01"]
+        days = [f"2026-01-{day:02}" for day in range(6, 32)] + [f"2026-02-{day:02}" for day in range(1, 6)]
         try_evenings(own, program, "desk_month", read(month, "book.txt"), read(month, "fixings.csv"), lines, days)
         days = [books.day_text(day) for day in range(7, books.DAYS + 7, 9)]
         try_evenings(own, program, "the random book", book.text, market.table(), book.lines(), days)
         try_stops(own, program, book, market)
+        for count in (1, 2):
+            try_corrections(own, program, market, count)
         # What the page shows of the example book.
         write(flows["desk_book"], "flows.csv")
         status, text, said = run("bash", os.path.join(HERE, "reports"))

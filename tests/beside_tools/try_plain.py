@@ -11,9 +11,9 @@ import books
 from bench import read, run, write
 
 PAGE = os.path.join(bench.TOP, "docs", "BESIDE-OTHER-TOOLS.md")
-FOLDERS = ("hledger", "quantlib", "slurm", "dask")
+FOLDERS = ("hledger", "quantlib", "recipes", "slurm", "dask")
 # What `examples/check` reads, and the books and tables.
-NOT_SHOWN = {"command", "output", "book.txt", "observed.csv", "assumed.csv", "option.txt", "option.code", "curve.csv", "course.csv"}
+NOT_SHOWN = {"command", "output", "book.txt", "observed.csv", "assumed.csv", "option.txt", "option.code", "curve.csv", "course.csv", "decls.txt", "rows.csv"}
 
 
 def try_page(own):

@@ -8,10 +8,12 @@ from fractions import Fraction
 import bench
 from bench import read, run, write
 
-sys.path.insert(0, os.path.join(bench.EXAMPLES, "quantlib"))
+sys.path.insert(0, os.path.join(bench.TOP, "desk"))
 import QuantLib as ql
-from bridge import Bridge, factors, plain, rounded
+import quantlib_terms
+from tilugba.terms.legs import Legs, factors, plain, rounded
 
+DESK = os.path.join(bench.TOP, "desk", "tilugba-desk")
 HERE = os.path.join(bench.EXAMPLES, "quantlib")
 ORIGIN = ql.Date(5, 1, 2026)
 PARTIES = ["Desk", "Bank"]
@@ -27,6 +29,33 @@ COARSE = Fraction(1, 2 * 10 ** 9)
 
 def schedule(start, end, tenor, rule=ql.ModifiedFollowing):
     return ql.Schedule(start, end, ql.Period(tenor), ql.TARGET(), rule, rule, ql.DateGeneration.Forward, False)
+
+
+def run_desk(program, *words):
+    """Runs a subcommand of the desk by this Python, and returns what it prints."""
+    status, text, said = run(sys.executable, "-B", DESK, *words, env={**os.environ, "TILUGBA": program})
+    return text if status == 0 else f"status {status}, {said}"
+
+
+class Book(Legs):
+    """Legs of QuantLib, as the portfolio that the command `rows` makes of them."""
+
+    def __init__(self, rates=5, bounds=("-0.05", "0.25")):
+        super().__init__(ORIGIN, rate_decimals=rates)
+        self.bounds = bounds
+
+    def contract(self, name, *legs):
+        for leg, *way in legs:
+            self.add_leg(name, leg, *way)
+
+    def portfolio(self, program):
+        head = ["portfolio 1;", "amounts 2;", f"origin {ORIGIN.ISO()};", f"party {', '.join(PARTIES)};", "asset EUR;"]
+        labels = dict.fromkeys(row["label"] for row in self.rows if "label" in row)
+        numbers = {name: (self.rate_decimals, *self.bounds) for name in labels} | ({"FX": (4, "0.5", "2.0")} if "FX" in labels else {})
+        head += [f"num {name} : {places} in {low} .. {high};" for name, (places, low, high) in numbers.items()]
+        write("".join(f"{line}\n" for line in head), "decls.txt")
+        write(self.table(), "rows.csv")
+        return run_desk(program, "rows", "decls.txt", "rows.csv")
 
 
 def flow_lines(program, book, table, *words):
@@ -79,22 +108,21 @@ def some_swap(dice, index, nominal=1e7):
 
 
 def try_legs(own, program, dice, index):
-    bridge = Bridge(ORIGIN, PARTIES, ["EUR"])
+    book = Book()
     bond, (fixed, floating) = some_bond(), some_swap(dice, index)
-    bridge.contract("bond", (bond, *BACK))
-    bridge.contract("swap", (fixed, *OUT), (floating, *BACK))
+    book.contract("bond", (bond, *BACK))
+    book.contract("swap", (fixed, *OUT), (floating, *BACK))
     delivered = [ql.SimpleCashFlow(1234567.89, ql.Date(1, 7, 2026)), ql.SimpleCashFlow(-250000.5, ql.Date(2, 7, 2026))]
-    bridge.contract("forward", (delivered, *OUT))
+    book.contract("forward", (delivered, *OUT))
     want = {**added("bond", (bond, -1)), **added("swap", (fixed, 1), (floating, -1)), **added("forward", (delivered, 1))}
     own.same("QuantLib, number of payments", 5 + 40 + 2, len(want))
-    own.same("QuantLib, bond, swap and forward", want, flow_lines(program, bridge.portfolio(), bridge.table()))
+    own.same("QuantLib, bond, swap and forward", want, flow_lines(program, book.portfolio(program), book.fixings_table()))
     return bond, fixed, floating
 
 
 def try_options(own, program, dice):
     """Calls and puts at expiry: what QuantLib's payoffs say of the rate of that day."""
-    bridge = Bridge(ORIGIN, PARTIES, ["EUR"])
-    bridge.label("FX", 4, ("0.5", "2.0"))
+    book = Book()
     exact, doubles, rates = {}, {}, {}
     for number in range(200):
         expiry = ORIGIN + dice.between(0, 400)
@@ -102,12 +130,12 @@ def try_options(own, program, dice):
         sign, nominal = dice.one((1, -1)), dice.between(1, 10 ** 7) / 100
         payoff = ql.PlainVanillaPayoff(ql.Option.Call if sign == 1 else ql.Option.Put, strike / 1e4)
         key = f"o{number}", expiry.ISO()
-        bridge.option(key[0], payoff, expiry, "FX", nominal, *OUT)
+        book.add_option(key[0], payoff, expiry, "FX", nominal, *OUT)
         doubles[key] = cents(payoff(rate / 1e4) * nominal)
         exact[key] = Fraction(max(0, sign * (rate - strike)), 100) * Fraction(plain(nominal))
     table = "label,day,value\n" + "".join(f"FX,{day},{plain(rate / 1e4)}\n" for day, rate in rates.items())
     own.judge(50 < sum(amount > 0 for amount in exact.values()) < 150, "QuantLib, options: too few pay, or too many")
-    whose_cents(own, "options at expiry", exact, doubles, flow_lines(program, bridge.portfolio(), table))
+    whose_cents(own, "options at expiry", exact, doubles, flow_lines(program, book.portfolio(program), table))
 
 
 # ---- Legs at random, and whose cent it is
@@ -159,17 +187,17 @@ def some_leg(dice, indexes, is_round):
 
 def try_cents(own, program, dice, indexes, title, is_round):
     """Legs at random; answers what the page says of them."""
-    bridge = Bridge(ORIGIN, PARTIES, ["EUR"], bounds=("-0.1", "0.2"))
+    book = Book(bounds=("-0.1", "0.2"))
     exact, doubles = {}, {}
     for number in range(300):
         leg, counter, rates = some_leg(dice, indexes, is_round)
-        bridge.contract(f"leg{number}", (leg, *OUT))
+        book.contract(f"leg{number}", (leg, *OUT))
         for flow, rate in zip(leg, rates):
             coupon, key = ql.as_coupon(flow), (f"leg{number}", flow.date().ISO())
             part = part_of_a_year(counter, coupon.accrualStartDate(), coupon.accrualEndDate())
             exact[key] = Fraction(plain(coupon.nominal())) * rate * part * 100
             doubles[key] = cents(flow.amount())
-    differ = whose_cents(own, title, exact, doubles, flow_lines(program, bridge.portfolio(), bridge.table()))
+    differ = whose_cents(own, title, exact, doubles, flow_lines(program, book.portfolio(program), book.fixings_table()))
     own.judge(len(exact) > 5000, f"QuantLib, {title}: only {len(exact)} coupons")
     return f"{differ} of {len(exact):,}"
 
@@ -177,10 +205,10 @@ def try_cents(own, program, dice, indexes, title, is_round):
 # ---- Values
 
 
-def try_values(own, program, title, bridge, curve, days):
+def try_values(own, program, title, book, curve, days):
     """On each day `value` is exactly the sum of lines times factors, and QuantLib's present value of these amounts is within half of
     the last decimal of each factor. Answers the value on the last day."""
-    lines = flow_lines(program, bridge.portfolio(), bridge.table(with_assumed=True))
+    lines = flow_lines(program, book.portfolio(program), book.fixings_table(with_assumed=True))
     write(run(program, "payoff", "book.txt", "--contract", title)[1], "leg.code")
     amounts = [(ql.Date(int(day[8:]), int(day[5:7]), int(day[:4])), amount) for (_, day), amount in sorted(lines.items())]
     paid = [ql.SimpleCashFlow(amount / 100, date) for date, amount in amounts]
@@ -215,9 +243,9 @@ def try_day_of_value(own, program):
     ql.Settings.instance().includeReferenceDateEvents = False
     ql.Settings.instance().evaluationDate = ORIGIN
     own.same("QuantLib, the day of value", ["1018.97", "1068.97"], worth)
-    bridge = Bridge(ORIGIN, PARTIES, ["EUR"])
-    bridge.contract("bond", (bond.cashflows(), *OUT))
-    own.same("the value on the day of a payment", "1068.97", rounded(float(try_values(own, program, "bond", bridge, curve, [day])), 2))
+    book = Book()
+    book.contract("bond", (bond.cashflows(), *OUT))
+    own.same("the value on the day of a payment", "1068.97", rounded(float(try_values(own, program, "bond", book, curve, [day])), 2))
 
 
 def try_bounds(own, program, page, dice):
@@ -226,25 +254,25 @@ def try_bounds(own, program, page, dice):
     handle = ql.YieldTermStructureHandle(curve)
     bond, (fixed, floating) = some_bond(), some_swap(dice, ql.Euribor3M(handle))
     days = [ORIGIN + 57 * step for step in range(32)] + [flow.date() for flow in bond]
-    bridge = Bridge(ORIGIN, PARTIES, ["EUR"])
-    bridge.contract("bond", (bond, *OUT))
-    try_values(own, program, "bond", bridge, curve, days)
-    bridge = Bridge(ORIGIN, PARTIES, ["EUR"], rates=12)
-    bridge.contract("swap", (fixed, *OUT), (floating, *BACK))
-    try_values(own, program, "swap", bridge, curve, days)
+    book = Book()
+    book.contract("bond", (bond, *OUT))
+    try_values(own, program, "bond", book, curve, days)
+    book = Book(rates=12)
+    book.contract("swap", (fixed, *OUT), (floating, *BACK))
+    try_values(own, program, "swap", book, curve, days)
     for nominal in (1e9, 1e11):
-        bridge, great = Bridge(ORIGIN, PARTIES, ["EUR"]), some_bond(nominal)
-        bridge.contract("bond", (great, *OUT))
-        value = try_values(own, program, "bond", bridge, curve, [ORIGIN])
+        book, great = Book(), some_bond(nominal)
+        book.contract("bond", (great, *OUT))
+        value = try_values(own, program, "bond", book, curve, [ORIGIN])
         apart = abs(float(value - Fraction(ql.CashFlows.npv(great, handle, True, ORIGIN, ORIGIN))))
         own.judge(f" {apart:.2f} " in page, f"QuantLib, a bond of {nominal:,.0f} is {apart:.2f} off, which the page does not say")
 
 
-# ---- The bridge
+# ---- What is refused, and the example
 
 
 def try_refusals(own, index):
-    """What has a formula of its own, which no contract of the bridge would pay, is refused."""
+    """What has a formula of its own, which no row would pay, is refused."""
     dates = schedule(ql.Date(15, 1, 2026), ql.Date(15, 1, 2028), "1y")
     compounded = ql.OvernightLeg([1e6], dates, ql.Estr(index.forwardingTermStructure()))
     capped = ql.IborLeg([1e6], dates, index, THIRTY, ql.Following, [2], [1.0], [0.0], [0.01])
@@ -259,23 +287,27 @@ def try_refusals(own, index):
     indexed = [ql.ZeroInflationCashFlow(1e6, prices, ql.CPI.Flat, *days)]
     for title, leg in (("compounded", compounded), ("capped", capped), ("indexed", indexed)):
         try:
-            Bridge(ORIGIN, PARTIES, ["EUR"]).contract("leg", (leg, *OUT))
+            Book().contract("leg", (leg, *OUT))
             said = "it is taken"
         except ValueError as fault:
             said = str(fault)
-        is_refused = "is not nominal, rate and part of a year" in said or "has an index that the bridge does not know" in said
+        is_refused = "is not nominal, rate and part of a year" in said or "has an index that is not known here" in said
         own.judge(is_refused, f"QuantLib, a leg that is {title}: {said}")
 
 
 def try_desk(own, program):
     """The files of the example are those that its script writes, and what is assumed is in none for `advance`."""
     folder = tempfile.mkdtemp(dir=".")
-    status, _, said = run(sys.executable, "-B", os.path.join(HERE, "desk.py"), folder=folder)
+    package = {**os.environ, "PYTHONPATH": os.path.join(bench.TOP, "desk")}
+    status, _, said = run(sys.executable, "-B", os.path.join(HERE, "desk.py"), folder=folder, env=package)
     own.same("QuantLib, desk.py", (0, ""), (status, said))
-    for name in ("book.txt", "observed.csv", "assumed.csv", "curve.csv"):
+    for name in ("rows.csv", "observed.csv", "assumed.csv", "curve.csv"):
         own.same(f"QuantLib, {name}", read(HERE, name), read(folder, name))
-    days = {name: [int(row.split(",")[1]) for row in read(HERE, f"{name}.csv").splitlines()[1:]] for name in ("observed", "assumed")}
-    own.judge(days["observed"] and max(days["observed"]) < 0 < max(days["assumed"]), f"QuantLib, the days of fixings: {days}")
+    book = run_desk(program, "rows", os.path.join(HERE, "decls.txt"), os.path.join(HERE, "rows.csv"))
+    own.same("QuantLib, book.txt", book, read(HERE, "book.txt"))
+    days = {name: [row.split(",")[1] for row in read(HERE, f"{name}.csv").splitlines()[1:]] for name in ("observed", "assumed")}
+    is_split = days["observed"] and max(days["observed"]) < ORIGIN.ISO() < max(days["assumed"])
+    own.judge(is_split, f"QuantLib, the days of fixings: {days}")
     status, text, _ = run(program, "advance", "book.txt", "observed.csv", "--to", "2026-01-13", folder=HERE)
     own.judge(status == 0 and text.count("obs(Euribor6M") == 4, f"QuantLib: {status}, {text}")
 
@@ -295,11 +327,13 @@ def main():
         for title, is_round in (("legs at random", False), ("legs of multiples of 25", True)):
             said = try_cents(own, program, dice, indexes, title, is_round)
             own.judge(said in " ".join(page.split()), f"QuantLib, {title}: {said} are a cent apart, which the page does not say")
+        quantlib_terms.try_terms(own, program, run_desk, bench.Dice(1), " ".join(read(bench.TOP, "docs", "DATES.md").split()))
         ql.Settings.instance().evaluationDate = ORIGIN
         try_bounds(own, program, page, dice)
         try_day_of_value(own, program)
         try_refusals(own, indexes["1y"])
         try_desk(own, program)
+        quantlib_terms.unit_tests(own, program)
         os.chdir("/")
     own.end()
 

@@ -10,6 +10,7 @@ import tempfile
 
 import bench
 import books
+import histories
 import processes
 from bench import read, run, write
 
@@ -181,6 +182,18 @@ def try_lost_node(own, cluster, program, lines):
     own.same("Slurm, joined after the loss", "".join(lines[name] for name in sorted(lines)[:200]), joined(room, "lost"))
 
 
+def try_history(own, cluster, program):
+    """A history as an array gives the bytes that it gives here, and what was answered is not asked again."""
+    history = histories.History(cluster.room, program)
+    settings = {**cluster.settings, "TILUGBA_LIBRARY": ""}
+    status, text, _ = history.printed("--slurm", "array", env=settings)
+    own.same("Slurm, a history is written", (0, "1 task; run array/submit"), (status, text.partition(",")[0]))
+    own.same("Slurm, its tasks", 0, run("array/submit", folder=history.room, env=settings)[0])
+    kept = [read(history.room, "array", "answers", name) for name in os.listdir(os.path.join(history.room, "array", "answers"))]
+    own.same("Slurm, its answers", history.count, "".join(kept).count("\n"))
+    own.same("Slurm, its table", (0, history.want[1]), history.printed("--keep", "array", env=settings)[:2])
+
+
 def main():
     own, program = bench.Bench(), sys.argv[1]
     processes.adopt()
@@ -191,6 +204,7 @@ def main():
                 own.same("Slurm, where it listens", {"loopback"}, processes.open_addresses())
                 texts, lines = make_books(room)
                 try_faults(own, cluster, program, texts, lines)
+                try_history(own, cluster, program)
                 try_lost_node(own, cluster, program, lines)
         finally:
             own.judge(not processes.end_all(), "Slurm: a process would not end")
