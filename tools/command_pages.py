@@ -7,14 +7,65 @@ from tilugba.command_table import SETTING, Command, Kind, Option, Table
 
 # Wider lines than this are not shown as what an example prints.
 WIDTH = 76
+# Wider lines are cut on the page of a command.
+PAGE_WIDTH = 110
 # What follows `=` in the form of a setting, and what comes before it.
 TEMPLATE, DAYS = SETTING.split("=")
 
 
 def readme_rows(table: Table) -> list[str]:
     """The table of commands in README.md."""
-    rows = [f"| `{it.form()}` | {it.does} |" for it in table.commands.values()]
+    rows = [f"| [`{it.form()}`](docs/commands/{it.name}.md) | {it.does} |" for it in table.commands.values()]
     return ["| Command | Prints |", "|---|---|", *rows]
+
+
+# ---- The page of a command
+
+
+def prose(page: str, first: str) -> str:
+    """What a command does, as its page tells it: the text between the heading and the line with which the made part begins."""
+    text = page.partition("\n")[2].partition(first)[0]
+    return " ".join(re.sub(r"\[([^\]]*)\]\([^)]*\)", r"\1", text).replace("`", "").split())
+
+
+def page_lines(command: Command, table: Table, examples: str) -> list[str]:
+    """The made part of docs/commands/NAME.md: the form, the words, the statuses with their causes, and an example that is run."""
+    rows = [f"| `{it.word}` | {it.what}{'' if it.is_needed else '; optional'} |" for it in command.files]
+    rows += ["| `NUMBER` | a number from 1 to 10,000 |"] if command.has_number else []
+    rows += [f"| `{SETTING}` | {table.kinds['setting'].what}; optional, and may be repeated |"] if command.has_settings else []
+    rows += [option_row(it) for it in command.options]
+    statuses = [f"| {it.number} | {it.why} |" for it in command.statuses]
+    return [
+        "",
+        *["```", f"tilugba {command.form()}", "```", ""],
+        *["| Word | What it is |", "|---|---|", *rows, ""],
+        *["## Statuses", "", "| Status | Cause |", "|---|---|", *statuses, ""],
+        *["## Example", "", "```console", *page_example(command.example, examples), "```", ""],
+    ]
+
+
+def option_row(option: Option) -> str:
+    what = option.kind.what if option.kind else "a flag, without a word"
+    choices = f": {', '.join(f'`{it}`' for it in option.kind.choices)}" if option.kind and option.kind.choices else ""
+    return f"| `{f'--{option.name} {option.word}'.rstrip()}` | {what}{choices}{'' if option.is_needed else '; optional'} |"
+
+
+def page_example(name: str, examples: str) -> list[str]:
+    """The command of an example as it is typed at the top of the repository, and what it prints."""
+    folder = os.path.join(examples, name)
+    with open(os.path.join(folder, "command"), encoding="utf-8") as file:
+        words = [word if not os.path.exists(os.path.join(folder, word)) else place(name, word) for word in file.read().splitlines()]
+    with open(os.path.join(folder, "output"), encoding="utf-8") as file:
+        output = file.read().splitlines()
+    end = f" | cut -c 1-{PAGE_WIDTH}" if any(len(it) > PAGE_WIDTH for it in output) else ""
+    typed = textwrap.wrap(" ".join(["./tilugba", *words]) + end, PAGE_WIDTH, break_long_words=False, break_on_hyphens=False)
+    typed = [f"$ {typed[0]}", *(f">   {it}" for it in typed[1:])]
+    return [*(f"{it} \\" for it in typed[:-1]), typed[-1], *(it[:PAGE_WIDTH] for it in output)]
+
+
+def place(example: str, word: str) -> str:
+    """A file of an example, by its path from the top."""
+    return os.path.normpath(os.path.join("examples", example, word))
 
 
 # ---- The man page
@@ -46,9 +97,9 @@ def synopsis(command: Command) -> list[str]:
     return lines + [option_line(it) for it in command.options]
 
 
-def described(command: Command, table: Table) -> list[str]:
-    """A command in the section COMMANDS, with the statuses that are its own."""
-    lines = [f".It Cm {command.name}", *sentences(command.about)]
+def described(command: Command, table: Table, told: str) -> list[str]:
+    """A command in the section COMMANDS, as its page tells it, with the statuses that are its own."""
+    lines = [f".It Cm {command.name}", *sentences(told)]
     own = [it for it in command.statuses if it.number not in table.always]
     if own:
         lines += [".Bl -tag -width 4n -compact", *(row for it in own for row in (f".It {it.number}", it.why)), ".El"]
@@ -78,12 +129,12 @@ def example(command: Command, folder: str) -> list[str]:
     return [*head, ".Bd -literal -offset 2n", *map(escaped, shown), ".Ed"]
 
 
-def man_parts(table: Table, examples: str) -> list[list[str]]:
-    """The sections of tilugba(1) that are made: SYNOPSIS, COMMANDS, EXIT STATUS and EXAMPLES."""
+def man_parts(table: Table, examples: str, told: dict[str, str]) -> list[list[str]]:
+    """The sections of tilugba(1) that are made, where `told` has what each command does: SYNOPSIS, COMMANDS, EXIT STATUS and EXAMPLES."""
     commands = table.commands.values()
     parts = [
         [".Sh SYNOPSIS", *(line for it in commands for line in synopsis(it))],
-        [".Sh COMMANDS", ".Bl -tag -width Ds", *(line for it in commands for line in described(it, table)), ".El"],
+        [".Sh COMMANDS", ".Bl -tag -width Ds", *(line for it in commands for line in described(it, table, told[it.name])), ".El"],
         [".Sh EXIT STATUS", ".Bl -tag -width 4n -compact", *status_lines(table), ".El"],
     ]
     shown = [example(it, os.path.join(examples, it.example)) for it in commands]
