@@ -63,13 +63,13 @@ complete -c tilugba -n '__tilugba_takes_file check 1' -F
 
 complete -c tilugba -n __tilugba_is_first -a flows -d 'who pays whom, how much and when'
 complete -c tilugba -n '__tilugba_takes_file flows 2' -F
-complete -c tilugba -n '__tilugba_is flows' -l until -x -d 'one to nine digits, or a date as 2026-01-05'
+complete -c tilugba -n '__tilugba_is flows' -l until -x -d 'a day: one to nine digits, or a date such as 2026-01-05'
 complete -c tilugba -n '__tilugba_is flows' -l contract -x -a '(__tilugba_declared contract)' -d 'the name of a contract'
 complete -c tilugba -n '__tilugba_is flows' -l net
 
-complete -c tilugba -n __tilugba_is_first -a advance -d 'what is due before a day, and the portfolio that is left'
+complete -c tilugba -n __tilugba_is_first -a advance -d 'what fell due before a day, and the portfolio that is left'
 complete -c tilugba -n '__tilugba_takes_file advance 2' -F
-complete -c tilugba -n '__tilugba_is advance' -l to -x -d 'one to nine digits, or a date as 2026-01-05'
+complete -c tilugba -n '__tilugba_is advance' -l to -x -d 'a day: one to nine digits, or a date such as 2026-01-05'
 
 complete -c tilugba -n __tilugba_is_first -a payoff -d 'the code of a contract, for value'
 complete -c tilugba -n '__tilugba_takes_file payoff 1' -F
@@ -78,7 +78,7 @@ complete -c tilugba -n '__tilugba_is payoff' -l plain
 
 complete -c tilugba -n __tilugba_is_first -a value -d 'what code is worth on a day, discounted'
 complete -c tilugba -n '__tilugba_takes_file value 3' -F
-complete -c tilugba -n '__tilugba_is value' -l at -x -d 'one to nine digits, or a date as 2026-01-05'
+complete -c tilugba -n '__tilugba_is value' -l at -x -d 'a day: one to nine digits, or a date such as 2026-01-05'
 complete -c tilugba -n '__tilugba_is value' -l from -x -a '(__tilugba_declared party)' -d 'the name of a party'
 complete -c tilugba -n '__tilugba_is value' -l to -x -a '(__tilugba_declared party)' -d 'the name of a party'
 complete -c tilugba -n '__tilugba_is value' -l asset -x -a '(__tilugba_declared asset)' -d 'the name of an asset'
@@ -86,7 +86,7 @@ complete -c tilugba -n '__tilugba_has_files value 3' -a '(__tilugba_declared tem
 
 complete -c tilugba -n __tilugba_is_first -a scenarios -d 'what code is worth in each scenario of a table'
 complete -c tilugba -n '__tilugba_takes_file scenarios 3' -F
-complete -c tilugba -n '__tilugba_is scenarios' -l at -x -d 'one to nine digits, or a date as 2026-01-05'
+complete -c tilugba -n '__tilugba_is scenarios' -l at -x -d 'a day: one to nine digits, or a date such as 2026-01-05'
 complete -c tilugba -n '__tilugba_is scenarios' -l from -x -a '(__tilugba_declared party)' -d 'the name of a party'
 complete -c tilugba -n '__tilugba_is scenarios' -l to -x -a '(__tilugba_declared party)' -d 'the name of a party'
 complete -c tilugba -n '__tilugba_is scenarios' -l asset -x -a '(__tilugba_declared asset)' -d 'the name of an asset'
@@ -101,15 +101,15 @@ complete -c tilugba -n '__tilugba_takes_file expand 1' -F
 
 complete -c tilugba -n __tilugba_is_first -a positions -d 'what each party gets less what it pays'
 complete -c tilugba -n '__tilugba_takes_file positions 2' -F
-complete -c tilugba -n '__tilugba_is positions' -l until -x -d 'one to nine digits, or a date as 2026-01-05'
+complete -c tilugba -n '__tilugba_is positions' -l until -x -d 'a day: one to nine digits, or a date such as 2026-01-05'
 
 complete -c tilugba -n __tilugba_is_first -a settle -d 'payments that settle the positions'
 complete -c tilugba -n '__tilugba_takes_file settle 2' -F
-complete -c tilugba -n '__tilugba_is settle' -l until -x -d 'one to nine digits, or a date as 2026-01-05'
+complete -c tilugba -n '__tilugba_is settle' -l until -x -d 'a day: one to nine digits, or a date such as 2026-01-05'
 
 complete -c tilugba -n __tilugba_is_first -a novate -d 'as advance, with another party in one contract'
 complete -c tilugba -n '__tilugba_takes_file novate 2' -F
-complete -c tilugba -n '__tilugba_is novate' -l to -x -d 'one to nine digits, or a date as 2026-01-05'
+complete -c tilugba -n '__tilugba_is novate' -l to -x -d 'a day: one to nine digits, or a date such as 2026-01-05'
 complete -c tilugba -n '__tilugba_is novate' -l contract -x -a '(__tilugba_declared contract)' -d 'the name of a contract'
 complete -c tilugba -n '__tilugba_is novate' -l old -x -a '(__tilugba_declared party)' -d 'the name of a party'
 complete -c tilugba -n '__tilugba_is novate' -l new -x -a '(__tilugba_declared party)' -d 'the name of a party'

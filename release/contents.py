@@ -50,7 +50,7 @@ def matches(pattern: str) -> list[str]:
 
 
 def pages() -> list[str]:
-    return [*matches("*.md"), *matches("docs/*.md"), *matches("man/*"), "commands.toml"]
+    return [*matches("*.md"), *matches("docs/**/*.md"), *matches("man/*"), "commands.toml"]
 
 
 def named_examples() -> set[str]:
@@ -102,6 +102,8 @@ def contents(made: dict[str, Files | Entry]) -> Files:
     """All files of the package, where `made` has what is made, by its name in release/contents.toml."""
     found: Files = {}
     for part in tomllib.loads(read("release/contents.toml").decode())["part"]:
+        if part.get("with", "program") not in made:
+            continue
         files = made[part["made"]] if "made" in part else files_of(part)
         if isinstance(files, Entry):
             files = {"": Entry(files.data, part.get("mode", PLAIN))}

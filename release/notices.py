@@ -1,5 +1,6 @@
-"""The notices of what is linked into the program: the crates of the toolchain that it stands on, with their licences."""
+"""What the program is made from: its texts with their checksum, and the notices of the crates of the toolchain that are linked into it."""
 import glob
+import hashlib
 import os
 import re
 
@@ -69,8 +70,18 @@ def notices(folder: str) -> str:
     return "\n".join([*parts, "-" * 80, OWN, ", ".join(own), ""])
 
 
+def sum_of(data: bytes) -> str:
+    return hashlib.sha256(data).hexdigest()
+
+
+def sum_of_sources(crate: str) -> str:
+    """The sum of the texts as they are, as tools/build-program and tools/build-library note it."""
+    lines = [f"{sum_of(read(path))}  {path}\n" for path in sources_of(crate)]
+    return sum_of("".join(lines).encode())
+
+
 def sources_of(crate: str) -> list[str]:
-    """The texts that a program is made from, as tools/build-program lists them."""
+    """The texts that a program or a library is made from, as tools/build-program lists them."""
     found = ["HANDLES", "crates.txt"]
     for name in below(crate) & set(crates()):
         for part in ("src", "specs", "proofs"):
