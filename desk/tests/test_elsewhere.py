@@ -57,7 +57,7 @@ class Slurm(Elsewhere):
         ran = self.history("--slurm", self.out)
         count = -(-(self.wanted.count("\n") - 1) // 20)
         told = f"{count} tasks; run {self.out}/submit, and then "
-        told += "the same words with --keep in the place of --slurm\n"
+        told += "the same words with --keep instead of --slurm\n"
         self.assertEqual((ran.status, ran.output, ran.errors), (0, told, ""))
         self.assertIn(f"--array=1-{count} ", (self.out / "submit").read_text())
         self.assertEqual([self.task(number) for number in range(1, count + 1)], [0] * count)

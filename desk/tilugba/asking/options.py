@@ -94,5 +94,5 @@ class Asking:
         count = write(asks, folder, self.desk.engine, words)
         tasks = "1 task" if count == 1 else f"{count} tasks"
         todo = f"run {folder / SUBMIT}, and then" if count else "all is answered:"
-        self.desk.write(f"{tasks}; {todo} the same words with --keep in the place of --slurm\n")
+        self.desk.write(f"{tasks}; {todo} the same words with --keep instead of --slurm\n")
         return Status.DONE
