@@ -3,7 +3,7 @@
 import { refusals } from "./answers.js";
 import { faultOf, lineOfRecord, ruleSentence } from "./faults.js";
 import { ROLES } from "./form.js";
-import { candidatesFor, shortened, tokens } from "./offers.js";
+import { tokens } from "./offers.js";
 import { button, by, say, state } from "./state.js";
 import { showRole } from "./texts.js";
 
@@ -79,17 +79,16 @@ export function showFault({ role, place, record, name, said }) {
 
 async function offersAt(editor, place) {
   const { contents } = editor;
-  const text = shortened(editor.before(place));
-  const found = await askOffers(editor, text);
+  const found = await askOffers(editor, editor.before(place));
   // What was typed meanwhile has places of its own.
   if (found && editor.contents === contents) showOffers({ editor, place, found });
 }
 
+// The worker chooses what is tried behind the text: of a long one that takes longer than a key does.
 async function askOffers(editor, text) {
   const words = wordsToParse(editor.role);
-  const candidates = candidatesFor(text, state.data.language);
   const name = ROLES[editor.role].file;
-  const said = await state.marker.ask({ words, name, text, candidates });
+  const said = await state.marker.ask({ words, name, text, language: state.data.language });
   return said.found ?? null;
 }
 
@@ -132,7 +131,7 @@ export async function offerAtCursor(editor) {
   const line = editor.editor.getLine(cursor.line).slice(0, cursor.ch);
   const begun = /\w*$/.exec(line)[0];
   const from = { line: cursor.line, ch: cursor.ch - begun.length };
-  const found = await askOffers(editor, shortened(editor.before(from)));
+  const found = await askOffers(editor, editor.before(from));
   if (!found) return;
   const fitting = found.filter((it) => !it.isKind && it.text.startsWith(begun));
   const list = fitting.map((it) => ({ text: it.text, displayText: it.shown }));

@@ -6,7 +6,7 @@
 const TOKEN =
   /#[^\n]*|\d{4}-\d\d-\d\d(?!\d)|\d+(?:\.\d+)?|[A-Za-z_]\w*|\.\.|[<>!]=|[^\s]/g;
 const NEW_NAME = "a_new_name";
-const LONG = 20000;
+const LONG = 2000;
 const MOST_NAMES = 200;
 
 const isName = (it) => /^[A-Za-z_]\w*$/.test(it);
@@ -64,7 +64,7 @@ export function declared(text) {
   return names;
 }
 
-// What is tried at the end of a text.
+// What is tried at the end of a text. `language` has its words and marks.
 export function candidatesFor(text, language) {
   const words = /^\s*schedules\b/.test(withoutComments(text))
     ? [...new Set([...language.words, ...language.plans])]

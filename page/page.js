@@ -10,8 +10,11 @@ import * as shown from "./shown.js";
 import { by, button, say, state } from "./state.js";
 import { isEmpty, makeEditors, put, save, showRole } from "./texts.js";
 
-// Milliseconds without a change, after which faults are marked, and after which a text is kept.
-const PAUSE = 100;
+// Milliseconds without a change, after which faults are marked, after which the form has the names
+// of the text, and after which a text is kept. Either of the last two reads all of a long text.
+const PAUSE = 80;
+
+const NAMES_AFTER = 350;
 
 const KEEP_AFTER = 500;
 
@@ -21,21 +24,24 @@ const FIRST = ["Tutorial", "What is observed"];
 
 const pausing = new Map();
 
+let namesSoon;
+
 let keepingSoon;
 
 function changed(editor) {
   clearTimeout(pausing.get(editor.role));
+  clearTimeout(namesSoon);
   clearTimeout(keepingSoon);
   editor.clearMarks();
   if (!ROLES[editor.role].isTable) showOffers(null);
   pausing.set(
     editor.role,
-    setTimeout(() => {
-      state.form.refresh();
-      showWords();
-      mark(editor);
-    }, PAUSE),
+    setTimeout(() => mark(editor), PAUSE),
   );
+  namesSoon = setTimeout(() => {
+    state.form.refresh();
+    showWords();
+  }, NAMES_AFTER);
   keepingSoon = setTimeout(keepAll, KEEP_AFTER);
 }
 

@@ -1,7 +1,7 @@
 // What computes: the page has one worker for runs, which can be stopped, and one for its marks.
 
 import { Tilugba, placeOfFault } from "./library.js";
-import { fits } from "./offers.js";
+import { candidatesFor, fits, shortened } from "./offers.js";
 
 // After so many trials a worker looks whether something newer was asked.
 const TRIALS = 8;
@@ -9,7 +9,14 @@ let library;
 let newest = 0;
 
 const decoded = (bytes) => new TextDecoder().decode(bytes);
-const pause = () => new Promise((done) => setTimeout(done, 0));
+
+// Lets a message in that waits: a timer would wait for milliseconds more.
+const turns = new MessageChannel();
+const pause = () =>
+  new Promise((done) => {
+    turns.port1.onmessage = done;
+    turns.port2.postMessage(0);
+  });
 
 function run({ words, files }) {
   const began = performance.now();
@@ -18,7 +25,9 @@ function run({ words, files }) {
 }
 
 // The words and marks that may stand behind a text, by asking the program about the text with each.
-async function offers({ id, words, name, text, candidates }) {
+async function offers({ id, words, name, text: whole, language }) {
+  const text = shortened(whole);
+  const candidates = candidatesFor(text, language);
   const ask = (tried) => {
     const { status, text: said } = library.run(words, [[name, tried]]);
     return status === 6 ? placeOfFault(status, decoded(said)) : null;
@@ -38,7 +47,7 @@ async function answer(data) {
     return { ready: true };
   }
   newest = data.id;
-  return data.candidates ? offers(data) : run(data);
+  return data.language ? offers(data) : run(data);
 }
 
 onmessage = async ({ data }) => {

@@ -40,6 +40,18 @@ LIMIT_OF_FILE = 16_777_216
 ROWS = 500_000
 PHONE, DESK = 360, 1280
 KEYS = {"tab": "\ue004", "enter": "\ue007"}
+# Milliseconds from a key to the mark of a fault on a quiet machine, in a book of 100 kB; and those
+# of a loop there, in a browser on a processor of 2.5 GHz.
+MARK_WITHIN, MOST_TRIES = 200, 20
+QUIET_LOOP = 12.0
+LOOP = """const begun = performance.now(); let sum = 0;
+for (let it = 0; it < 2e6; it++) sum = (sum * 31 + it) % 1000003;
+return sum ? performance.now() - begun : 0;"""
+MARKED_AFTER = """const done = arguments[0], begun = performance.now(), note = by('fault');
+note.textContent = '';
+new MutationObserver((_, it) => { it.disconnect(); done(performance.now() - begun); })
+  .observe(note, { childList: true });
+ed('portfolio').replaceRange('x', { line: 1500, ch: 0 });"""
 
 
 class Walk:
@@ -532,21 +544,27 @@ class Walk:
         _, text = self.run()
         self.judge(text == "c,0,A,B,EUR,1.00\n", f"after Stop a run gives {text}")
 
+    def slowness(self) -> float:
+        """How many times as long as on a quiet machine the browser takes for a loop here and now,
+        and at least 1: processors that others use too are slower, and its limits are stretched."""
+        return max(min(float(str(self.do(LOOP))) for _ in range(5)) / QUIET_LOOP, 1.0)
+
     def long_book(self) -> None:
-        """The mark of a fault in a book of 100 kB, with how long it took."""
+        """A fault in a book of 100 kB is marked soon after a pause; the least of some tries."""
         line = "contract c{} = after(5, scale(100.00, pay(EUR, A, B)));\n"
         text = HEAD + "".join(line.format(it) for it in range(2000))
-        self.put("portfolio", f"{text}contract last = zero\n")
         self.put("portfolio", text)
-        time.sleep(1)
-        took = self.browser.later(
-            EDITOR + BY + "const done = arguments[0], begun = performance.now();"
-            "ed('portfolio').replaceRange('x', {line: 1500, ch: 0});"
-            "const timer = setInterval(() => { if (!by('fault').textContent) return;"
-            "clearInterval(timer); done(performance.now() - begun); }, 5);"
-        )
-        print(f"a fault in a book of {len(text)} bytes is marked after {took:.0f} ms", flush=True)
-        # (how long it may take is no verdict on a machine that is busy)
+        tries: list[float] = []
+        for _ in range(MOST_TRIES):
+            self.do("ed('portfolio').setValue(arguments[0])", text)
+            time.sleep(1)
+            took = float(str(self.browser.later(EDITOR + BY + MARKED_AFTER)))
+            tries.append(took / self.slowness())
+            if min(tries) < MARK_WITHIN:
+                break
+        said = f"a fault in a book of {len(text)} bytes is marked after {took:.0f} ms"
+        print(f"{said}, {min(tries):.0f} on a quiet machine", flush=True)
+        self.judge(min(tries) < MARK_WITHIN, f"{said}, of which {MARK_WITHIN} were wanted: {tries}")
         self.judge(self.marked() == [1500, 0], f"the mark in a long book is at {self.marked()}")
 
     def narrow_and_dark(self) -> None:
