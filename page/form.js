@@ -45,6 +45,8 @@ export class Form {
     this.place = place;
     this.textOf = textOf;
     this.values = {};
+    // What a link or an example gave, which stays though the text has no such name, until it changes.
+    this.given = {};
     this.name = "";
     place.addEventListener("input", () => {
       this.read();
@@ -63,6 +65,7 @@ export class Form {
 
   choose(name, values = {}) {
     this.name = name;
+    this.given = { ...values };
     Object.assign(this.values, values);
     this.show();
   }
@@ -82,8 +85,9 @@ export class Form {
   show() {
     const { command } = this;
     const names = this.names();
+    this.shown = JSON.stringify(names);
     const fields = (command.options ?? []).map((it) => this.fieldOf(it, names));
-    if (command.settings) fields.push(...names.template.map((it) => this.settingOf(it)));
+    if (command.settings) fields.push(...this.templates(names).map((it) => this.settingOf(it)));
     if (command.number) fields.push(this.numberField());
     this.place.replaceChildren(...fields);
   }
@@ -92,8 +96,14 @@ export class Form {
   refresh() {
     const names = JSON.stringify(this.names());
     if (names === this.shown || this.place.contains(document.activeElement)) return;
-    this.shown = names;
+    this.given = {};
     this.show();
+  }
+
+  // The templates that have a field: those of the text, and those that were given.
+  templates(names) {
+    const given = Object.keys(this.given).filter((it) => it.startsWith("="));
+    return [...new Set([...names.template, ...given.map((it) => it.slice(1))])];
   }
 
   fieldOf(option, names) {
@@ -119,9 +129,11 @@ export class Form {
     const field = make("select", {});
     if (!option.needed) field.add(new Option("all", ""));
     for (const it of new Set(all)) field.add(new Option(it, it));
+    const isGiven = value && this.given[option.name] === value && !all.includes(value);
+    if (isGiven) field.add(new Option(`${value} (not in the text)`, value));
     if (!field.options.length) field.add(new Option("the text declares none", ""));
     // A name that the text does not declare is no longer chosen.
-    field.value = all.includes(value) ? value : field.options[0].value;
+    field.value = isGiven || all.includes(value) ? value : field.options[0].value;
     return field;
   }
 
@@ -169,7 +181,7 @@ export class Form {
     for (const it of command.files) words.push(ROLES[it].file);
     for (const it of command.optional ?? []) if (!isEmpty(it)) words.push(ROLES[it].file);
     if (command.settings) {
-      for (const it of this.names().template) {
+      for (const it of this.templates(this.names())) {
         const value = this.values[`=${it}`];
         if (value) words.push(`${it}=${value}`);
       }

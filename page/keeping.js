@@ -43,11 +43,14 @@ export async function caseOf(fragment) {
   } catch {
     throw new Error(cut);
   }
-  if (found?.form !== 1 || typeof found.command !== "string" || typeof found.texts !== "object") {
+  if (found?.form !== 1 || !isCase(found)) {
     throw new Error("The link is of another version of this page.");
   }
   return found;
 }
+
+const isCase = (it) =>
+  typeof it?.command === "string" && typeof it.texts === "object" && it.texts !== null;
 
 // Keeps a case in this browser; answers a sentence if it cannot.
 export function keep(kept, key = KEY) {
@@ -59,9 +62,11 @@ export function keep(kept, key = KEY) {
   }
 }
 
+// What was kept; null if that is nothing, or no case.
 export function kept(key = KEY) {
   try {
-    return JSON.parse(localStorage.getItem(key) ?? "null");
+    const found = JSON.parse(localStorage.getItem(key) ?? "null");
+    return isCase(found) ? found : null;
   } catch {
     return null;
   }

@@ -45,14 +45,22 @@ function changed(editor) {
   keepingSoon = setTimeout(keepAll, KEEP_AFTER);
 }
 
-function keepAll() {
+// The question, its options and all texts that are not held as they are.
+function current() {
   const texts = {};
-  let isHeld = false;
-  for (const [role, it] of Object.entries(state.editors)) {
-    if (it.held) isHeld = true;
-    else texts[role] = it.text;
-  }
-  const fault = keeping.keep({ command: state.form.name, values: state.form.values, texts });
+  for (const [role, it] of Object.entries(state.editors)) if (!it.held) texts[role] = it.text;
+  return { command: state.form.name, values: state.form.values, texts };
+}
+
+// The case of a link is not kept before it is changed: what was typed before would be lost by it.
+let ofLink = "";
+
+function keepAll() {
+  const isHeld = Object.values(state.editors).some((it) => it.held);
+  const now = current();
+  if (ofLink && JSON.stringify(now) === ofLink) return;
+  ofLink = "";
+  const fault = keeping.keep(now);
   if (fault) say(fault, true);
   else if (isHeld) say("The file that is held is not kept in the browser when the page is closed.");
 }
@@ -126,10 +134,13 @@ async function copyLink() {
   }
 }
 
+const commandOf = (name) => state.data.commands.command.find((it) => it.name === name);
+
+// Takes a case. A text of its question that it does not have is empty: what stood there is another's.
 function takeCase({ command, values, texts }) {
-  if (!state.data.commands.command.some((it) => it.name === command)) {
-    throw new Error("The link names no command.");
-  }
+  const about = commandOf(command);
+  if (!about) throw new Error("The link names no command of this page.");
+  for (const role of state.form.rolesOf(about)) put(role, ROLES[role].header ?? "");
   for (const role of Object.keys(ROLES)) {
     if (typeof texts[role] === "string") put(role, texts[role]);
   }
@@ -139,11 +150,13 @@ function takeCase({ command, values, texts }) {
 
 // Begins with the case of a link, or with what was kept, or with the first example.
 async function begin() {
-  const before = keeping.kept();
+  const kept = keeping.kept();
+  const before = kept && commandOf(kept.command) ? kept : null;
   try {
     const linked = await keeping.caseOf(location.hash);
     if (linked) {
       takeCase(linked);
+      ofLink = JSON.stringify(current());
       if (before) {
         keeping.setAside(before);
         by("message").replaceChildren(
@@ -164,10 +177,10 @@ async function begin() {
   const page = state.data.recipes.pages.findIndex((it) => it.page === FIRST[0]);
   const number = state.data.recipes.pages[page].sections[FIRST[1]].at(-1);
   by("recipe").value = JSON.stringify([page, FIRST[1]]);
-  const [kept, isFault] = [by("message").textContent, by("message").classList.contains("fault")];
+  const [told, isFault] = [by("message").textContent, by("message").classList.contains("fault")];
   await showRuns(page, FIRST[1]);
   await loadRun(page, number);
-  if (isFault) say(kept, true);
+  if (isFault) say(told, true);
 }
 
 function bringBack() {
