@@ -33,7 +33,10 @@ use Rattle.advance_step.specs.WhatIsLeft.{left_of}
 use Rattle.advance_step.specs.Advancing.{IsResidual}
 use Rattle.advance_step.specs.CarryingWalk.{AnswersLeft, IsLeftEverywhere, NamesUnfixedRead}
 use Rattle.advance_step.specs.Residual.{AnswersLeftAfter, IsLeftAfter, ReadsAreFixed}
+use Rattle.rewriting.specs.Measures.{size_in}
+use Rattle.advance_step.specs.Reducing.{reduced}
 use Rattle.advance_step.proofs.CarryFacts.{left_carries}
+use Rattle.advance_step.proofs.ReducingFacts.{stays}
 use Rattle.advance_step.proofs.LeftAcceptedFacts.{left_accepted}
 use Rattle.advance_step.proofs.LeftForms.{left_formed}
 use Rattle.advance_step.proofs.LeftSizes.{gone}
@@ -91,6 +94,7 @@ pub left_after : (d : Declarations) (F : Environment) (c rest : Contract) (f : �
 left_after d F c rest f j limits h n is =
     let here : rest ≡ left_of d c [] F f j = is F (λ q v e. e) in
     record {
+      exact = λ env x. is env x;
       accepted = subst (λ (x : Contract). IsAccepted d x) (sym here)
           (left_accepted d c F f j limits h);
       carries = left_carries d c f F j rest (right_scale d c h) (λ env b x. is env x);
@@ -128,7 +132,11 @@ gone_residual d F c f (suc j) limits h w numbers past =
     let none : IsLeftEverywhere d F c f j Zero =
     λ env ext. sym (gone d c [] env f j (omega (arith, past))) in
     let left = left_after d F c Zero f j limits h numbers none in
+    let there = f +ℤ pos (suc j) in
     record {
+      exact = λ env same.
+          sym (ap (reduced d env there) (gone d c [] env f j (omega (arith, past)))
+          ∙ stays d env there Zero (size_in Zero) refl);
       accepted = left.accepted;
       carries = left.carries;
       reduced = nothing_reduced d F (f +ℤ pos (suc j));

@@ -12,6 +12,8 @@ pub mod LeftForms
 pub mod LeftLarge
 pub mod LeftSmall
 pub mod ReducingFacts
+pub mod RoundsEnd
+pub mod SameFixings
 pub mod RowsLeft
 pub mod SoonerFacts
 pub mod EntryFacts

@@ -24,7 +24,8 @@ use Rattle.simplify.proofs.ContractTurnReads.{turns_carry}
 use Rattle.simplify.proofs.TurnAccepted.{turn_accepted}
 use Rattle.simplify.proofs.SimplifyingFacts.{right_scale}
 use Rattle.advance_step.proofs.LeftAcceptedFacts.{left_accepted}
-use Rattle.advance_step.specs.LawsReducing.{reduced_once, reduced_times, ReducingOnce, ReducingEnds, ResidualsHold}
+use Rattle.advance_step.specs.LawsReducing.{ReducingOnce, ReducingEnds, ResidualsHold}
+use Rattle.advance_step.specs.Reducing.{reduced_once, reduced_times}
 
 at_most : (a b : ℕ) → nat_le a b ≡ true → a ≤ b
 at_most a b h = grind (arith, nat_tests)
@@ -77,7 +78,7 @@ reducing_once d F f c limits a h =
     )
 
 -- what one round leaves as it is, all rounds do
-stays : (d : Declarations) (F : Environment) (f : ℤ) (c : Contract) (n : ℕ) → reduced_once d F f c ≡ c → reduced_times d F f n c ≡ c
+pub stays : (d : Declarations) (F : Environment) (f : ℤ) (c : Contract) (n : ℕ) → reduced_once d F f c ≡ c → reduced_times d F f n c ≡ c
 stays d F f c zero e = refl
 stays d F f c (suc n) e = ap (reduced_times d F f n) e ∙ stays d F f c n e
 

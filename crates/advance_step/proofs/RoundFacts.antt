@@ -23,18 +23,20 @@ use Rattle.specialise.proofs.CallFacts.{shared_numbers}
 use Rattle.simplify.specs.TurningContracts.{turned_in}
 use Rattle.simplify.proofs.TurnForms.{turns_keep_forms}
 use Rattle.simplify.proofs.SimplifyingFacts.{literals_fit, nothing_plain}
-use Rattle.advance_step.specs.LawsReducing.{reduced_once}
+use Rattle.advance_step.specs.Reducing.{reduced_once}
 use Rattle.advance_step.specs.Residual.{IsReducedFrom}
 use Rattle.advance_step.proofs.ReducingFacts.{each_kind, from_here, reducing_once}
+use Rattle.advance_step.proofs.RoundsEnd.{last_is, once_more}
 
 -- what a turn k of what is specialised of c is reduced to, that c is reduced to
 after_round : (d : Declarations) (F : Environment) (f : ℤ) (c s k r : Contract) → KeepsLimits d → IsAdmitted d F → IsAccepted d c → HasOnlyNumbers c
-    → s ≡ specialised_in d F (Some f) c → k ≡ turned_in d [] s → IsReducedFrom d F f k r → IsReducedFrom d F f c r
-after_round d F f c s k r limits a h n hs hk p =
+    → s ≡ specialised_in d F (Some f) c → k ≡ turned_in d [] s → size_in k < size_in c → IsReducedFrom d F f k r → IsReducedFrom d F f c r
+after_round d F f c s k r limits a h n hs hk less p =
     let one = reduced_once d F f c in
     let same : k ≡ one = hk ∙ ap (λ (x : Contract). turned_in d [] x) hs in
     let q : IsReducedFrom d F f one r = subst (λ (x : Contract). IsReducedFrom d F f x r) same p in
     record {
+      exact = q.exact ∙ sym (once_more d F f c limits a h (subst (λ (x : Contract). size_in x < size_in c) same less));
       accepted = q.accepted;
       carries = from_here d c one r f F (reducing_once d F f c limits a h).1 q.carries;
       reduced = q.reduced;
@@ -53,6 +55,7 @@ last_round d F f c s limits a h n hs still =
     let accepted : IsAccepted d s = subst (λ (x : Contract). IsAccepted d x) (sym hs) (special_accepted d c F (Some f) limits a h) in
     let plain = nothing_plain d s still in
     record {
+      exact = last_is d F f c s a h hs still;
       accepted = accepted;
       carries = subst (λ (x : Contract). Carries d c f F 0 x) (sym hs) (special_carries d F c f);
       reduced =
@@ -67,10 +70,11 @@ last_round d F f c s limits a h n hs still =
 -- the same of contracts with shared parts
 
 pub round_then : {E : Type 0} (d : Declarations) (F : Environment) (f : ℤ) (c s k : SharedContr) (o : Result (Rc SharedContr Global) E) → KeepsLimits d → IsAdmitted d F → IsAccepted d (shared c)
-    → shared s ≡ specialised_in d F (Some f) (shared c) → shared k ≡ turned_in d [] (shared s)
+    → shared s ≡ specialised_in d F (Some f) (shared c) → shared k ≡ turned_in d [] (shared s) → size_in (shared k) < size_in (shared c)
     → IfOk o (λ r. IsReducedFrom d F f (shared k) (shared r.value)) → IfOk o (λ r. IsReducedFrom d F f (shared c) (shared r.value))
-round_then d F f c s k (Err e) limits a h hs hk p = tt
-round_then d F f c s k (Ok r) limits a h hs hk p = after_round d F f (shared c) (shared s) (shared k) (shared r.value) limits a h (shared_numbers c) hs hk p
+round_then d F f c s k (Err e) limits a h hs hk less p = tt
+round_then d F f c s k (Ok r) limits a h hs hk less p =
+    after_round d F f (shared c) (shared s) (shared k) (shared r.value) limits a h (shared_numbers c) hs hk less p
 
 pub round_last : (d : Declarations) (F : Environment) (f : ℤ) (c s : SharedContr) → KeepsLimits d → IsAdmitted d F → IsAccepted d (shared c)
     → shared s ≡ specialised_in d F (Some f) (shared c) → shared s ≡ turned_in d [] (shared s) → IsReducedFrom d F f (shared c) (shared s)

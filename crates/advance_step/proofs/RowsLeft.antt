@@ -29,7 +29,7 @@ use Rattle.term_model.proofs.TimeFacts.{nodes_timed}
 use Rattle.term_model.proofs.Trials.{first_failing-is}
 use Rattle.rewriting.specs.Measures.{size_in}
 use Rattle.advance_step.specs.WhatIsLeft.{left_of}
-use Rattle.advance_step.specs.LawsReducing.{reduced_times}
+use Rattle.advance_step.specs.Reducing.{reduced_times}
 use Rattle.advance_step.proofs.ReducingFacts.{residuals_hold}
 
 -- amounts of 2 decimals, the parties A and B are 0 and 1, the asset EUR is 0, and FX, from 0.5000 to 2.0000, is label 0

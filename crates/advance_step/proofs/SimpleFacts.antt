@@ -1,5 +1,5 @@
 -- Reduced simple contracts: what is left of one is one too, or nothing. So it is a residual.
-use Rattle.std.proofs.Common.{◌≡◌, ℕ, suc, zero, ℤ, pos, negsuc, ◌+ℤ◌, ◌+◌, ◌-◌, ◌≤◌, ◌||◌, ◌==◌, not, nat_le, Bool, true, false, List, [], Some, Option, refl, ap, ap₂, sym, subst, ◌∙◌, inl, inr, ◌⊎◌, arith}
+use Rattle.std.proofs.Common.{◌≡◌, ℕ, suc, zero, ℤ, pos, negsuc, ◌+ℤ◌, ◌+◌, ◌-◌, ◌≤◌, ◌||◌, ◌==◌, not, nat_le, if◌then◌else◌, Bool, true, false, List, [], Some, Option, refl, ap, ap₂, sym, subst, ◌∙◌, inl, inr, ◌⊎◌, arith}
 use Rattle.std.specs.Ordering.{int_eq}
 use Rattle.std.proofs.lemmas.Bool.Decides.{nat_tests}
 use Rattle.term_model.specs.Declarations.{Declarations}
@@ -17,8 +17,8 @@ use Rattle.interval_check.specs.Within.{KeepsLimits}
 use Rattle.rewriting.proofs.Choices.{if_cases}
 use Rattle.specialise.specs.Specialising.{specialised, specialised_in}
 use Rattle.specialise.proofs.SpecialRedexes.{special_leaves_none}
-use Rattle.simplify.specs.Turning.{HasNoPlain}
-use Rattle.simplify.specs.TurningContracts.{HasNoPlainIn, is_later, is_nothing}
+use Rattle.simplify.specs.Turning.{HasNoPlain, turned}
+use Rattle.simplify.specs.TurningContracts.{HasNoPlainIn, is_contract_redex, is_later, is_nothing, made, rule_in, turned_in}
 use Rattle.simplify.proofs.SimplifyingFacts.{literals_fit}
 use Rattle.advance_step.specs.Advancing.{IsResidual}
 use Rattle.advance_step.specs.SimpleContracts.{IsLeftAnywhere, IsReducedSimple, is_factor}
@@ -26,7 +26,10 @@ use Rattle.advance_step.specs.WhatIsLeft.{both_left, delayed, left_of, scale_lef
 use Rattle.advance_step.proofs.KnownFacts.{left_after, near_enough, nothing_reduced}
 use Rattle.advance_step.proofs.LeftForms.{left_formed}
 use Rattle.advance_step.proofs.LeftParts.{both_cases, scale_cases}
-use Rattle.advance_step.proofs.ReducingFacts.{each_kind}
+use Rattle.rewriting.specs.Measures.{size_in}
+use Rattle.term_model.specs.declared.values.Kind.{Kind}
+use Rattle.advance_step.specs.Reducing.{reduced as reduced_by}
+use Rattle.advance_step.proofs.ReducingFacts.{each_kind, stays}
 
 -- ---- factors
 
@@ -144,6 +147,27 @@ left_stays d (After m c) g env f j h =
 left_stays d (Let e c) g env f j h = absurd h
 left_stays d (Within e n a b) g env f j h = absurd h
 
+-- ---- a round changes nothing
+
+no_turn : (d : Declarations) (ks : List Kind) (e : Expression) → is_factor e ≡ true → turned d ks e ≡ e
+no_turn d ks = each_factor (λ e. turned d ks e ≡ e) (λ m s not_zero. refl)
+
+no_rule : (c : Contract) → is_contract_redex c ≡ false → rule_in c ≡ c
+no_rule c h = ap (λ (b : Bool). if b then made c else c) h
+
+unturned : (d : Declarations) (ks : List Kind) (c : Contract) → IsReducedSimple c → turned_in d ks c ≡ c
+unturned d ks Zero h = absurd h
+unturned d ks (Pay a p q) h = refl
+unturned d ks (Both a b) h = ap rule_in (ap₂ Both (unturned d ks a h.0) (unturned d ks b h.1)) ∙ no_rule (Both a b) (plain (Both a b) h).2
+unturned d ks (Scale e c) h = ap rule_in (ap₂ Scale (no_turn d ks e h.0) (unturned d ks c h.1)) ∙ no_rule (Scale e c) (plain (Scale e c) h).2
+unturned d ks (After n c) h = ap (λ (x : Contract). rule_in (After n x)) (unturned d ks c h.2) ∙ no_rule (After n c) (plain (After n c) h).1
+unturned d ks (Let e c) h = absurd h
+unturned d ks (Within e n a b) h = absurd h
+
+rounds_stay : (d : Declarations) (F : Environment) (f : ℤ) (c : Contract) → StaysSimple c → reduced_by d F f c ≡ c
+rounds_stay d F f c (inl none) = subst (λ (x : Contract). reduced_by d F f x ≡ x) (sym none) (stays d F f Zero (size_in Zero) refl)
+rounds_stay d F f c (inr h) = stays d F f c (size_in c) (ap (λ (x : Contract). turned_in d [] x) (untold d F c (Some f) h) ∙ unturned d [] c h)
+
 -- ---- a residual
 
 -- such a contract has no redex, and the literals of texts
@@ -158,8 +182,10 @@ simple_rest d F c rest f j limits admitted a w n h is =
     let left = left_after d F c rest f j limits a n (λ env _. is d [] env f) in
     let here : rest ≡ left_of d c [] F f j = is d [] F f in
     let stays : StaysSimple rest = subst StaysSimple (sym here) (left_stays d c [] F f j h) in
-    let reduced = reduced_rest d F (f +ℤ pos (suc j)) rest limits admitted left.accepted stays in
+    let there = f +ℤ pos (suc j) in
+    let reduced = reduced_rest d F there rest limits admitted left.accepted stays in
     record {
+      exact = λ env same. sym (rounds_stay d env there rest stays) ∙ ap (reduced_by d env there) (is d [] env f);
       accepted = left.accepted;
       carries = left.carries;
       reduced = reduced.0;

@@ -22,6 +22,8 @@ use Rattle.flow_eval.specs.declared.flow_table.FlowRow.{FlowRow}
 use Rattle.flow_eval.specs.declared.faults.FlowErr.TheVariants.{Missing, NoMemory}
 use Rattle.term_model.specs.Literals.{HasLiteralsIn}
 use Rattle.flow_eval.specs.Faults.{lacks_memory}
+use Rattle.fixing_files.specs.Layers.{HoldSame}
+use Rattle.advance_step.specs.Reducing.{residual}
 use Rattle.advance_step.specs.declared.advancing.Advanced.{Advanced}
 use Rattle.advance_step.specs.declared.stepping.SharedAdvanced.{SharedAdvanced}
 use Rattle.advance_step.specs.Residual.{IsLeftAfter}
@@ -32,9 +34,11 @@ day_before first days = (first +ℤ pos days) -ℤ pos 1
 
 -- a contract that is left of one which stands on the first day, so many days later: it is accepted,
 -- pays on each later day what the other pays, in each environment that extends the fixings, and has
--- no redex; past the reach it is nothing. And what printing asks of it.
+-- no redex; past the reach it is nothing; and it is the one residual, by whatever list holds what
+-- the fixings hold. And what printing asks of it.
 pub record IsResidual (d : Declarations) (fixings : Environment) (first : ℤ) (days : ℕ)
     (c rest : Contract) : Type 0 where
+  pub exact : (env : Environment) → HoldSame fixings env → rest ≡ residual d env first days c
   pub accepted : IsAccepted d rest
   pub carries : Carries d c first fixings days rest
   pub reduced : IsReduced d rest fixings (first +ℤ pos days)

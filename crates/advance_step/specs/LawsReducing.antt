@@ -1,5 +1,5 @@
--- Reducing: specialise, turn, and again. Then the whole of what is asked of a residual.
-use Rattle.std.specs.Prelude.{ℕ, zero, suc, ℤ, pos, ◌+ℤ◌, ◌≤◌, ◌<◌, ◌≡◌, ◌⊎◌, [], Some}
+-- Rounds of reducing end. Then the whole of what is asked of a residual.
+use Rattle.std.specs.Prelude.{ℕ, suc, ℤ, pos, ◌+ℤ◌, ◌≤◌, ◌<◌, ◌≡◌, ◌⊎◌}
 use Rattle.term_model.specs.Declarations.{Declarations}
 use Rattle.term_model.specs.Terms.{Contract, Zero}
 use Rattle.term_model.specs.Environments.{Environment}
@@ -8,17 +8,9 @@ use Rattle.term_model.specs.Residuals.{Carries}
 use Rattle.term_model.specs.Redexes.{IsReduced}
 use Rattle.term_model.specs.Acceptance.{IsAccepted}
 use Rattle.advance_step.specs.LawsLeft.{IsLeftInAdmitted}
+use Rattle.advance_step.specs.Reducing.{reduced_once, reduced_times}
 use Rattle.rewriting.specs.Measures.{size_in}
-use Rattle.simplify.specs.TurningContracts.{turned_in}
 use Rattle.specialise.specs.LawsAccepted.{WhereAccepted}
-use Rattle.specialise.specs.Specialising.{specialised_in}
-
-abbrev pub reduced_once : Declarations → Environment → ℤ → Contract → Contract
-reduced_once d fixings f c = turned_in d [] (specialised_in d fixings (Some f) c)
-
-abbrev pub reduced_times : Declarations → Environment → ℤ → ℕ → Contract → Contract
-reduced_times d fixings f zero c = c
-reduced_times d fixings f (suc n) c = reduced_times d fixings f n (reduced_once d fixings f c)
 
 -- k is accepted, carries c, and is c if that is reduced, or smaller
 abbrev pub IsRound : Declarations → Environment → ℤ → Contract → Contract → Type 0

@@ -1,6 +1,7 @@
 pub mod WhatIsLeft
 pub mod SimpleContracts
 pub mod CarryingWalk
+pub mod Reducing
 pub mod Residual
 pub mod Advancing
 pub mod LawsAdvancing

@@ -5,7 +5,7 @@ use Rattle.std.specs.declared.rc.Rc.{Rc}
 use Rattle.std.specs.Global.{Global}
 use Rattle.term_model.specs.Declarations.{Declarations}
 use Rattle.term_model.specs.Terms.{Contract, Zero}
-use Rattle.term_model.specs.Environments.{Environment}
+use Rattle.term_model.specs.Environments.{Environment, Extends}
 use Rattle.term_core.specs.declared.shared.SharedContr.{SharedContr}
 use Rattle.term_core.specs.SharedTerms.{shared, StoresOffsets}
 use Rattle.term_model.specs.Acceptance.{IsAccepted}
@@ -19,6 +19,7 @@ use Rattle.flow_eval.specs.FlowAnswers.{reads_until}
 use Rattle.flow_eval.specs.Faults.{lacks_memory}
 use Rattle.flow_eval.specs.declared.faults.FlowErr.{FlowErr}
 use Rattle.term_model.specs.Literals.{HasLiteralsIn}
+use Rattle.advance_step.specs.Reducing.{reduced, rest_after}
 
 -- a day on which a contract may stand
 abbrev pub MayStandOn : ℤ → Type 0
@@ -31,9 +32,10 @@ ReadsAreFixed d c fixings first last =
 
 -- a contract that is left of c, which stands on the first day, so many days later: accepted, and
 -- paying on each later day what c pays, in each environment that extends the fixings; past the
--- reach it is nothing
+-- reach it is nothing; and it is what is left in whichever of these environments
 pub record IsLeftAfter (d : Declarations) (fixings : Environment) (first : ℤ) (days : ℕ)
     (c rest : Contract) : Type 0 where
+  pub exact : (env : Environment) → Extends fixings env → rest ≡ rest_after d env first days c
   pub accepted : IsAccepted d rest
   pub carries : Carries d c first fixings days rest
   pub gone : reach c < days → rest ≡ Zero
@@ -47,9 +49,10 @@ AnswersLeftAfter d fixings first days c (Ok rest) =
 AnswersLeftAfter d fixings first days c (Err e) = e ≡ lacks_memory
 
 -- a contract that c, which stands on a day, is reduced to: accepted, paying the same from that day
--- on, and without redexes. Of nothing it is nothing.
+-- on, and without redexes. Of nothing it is nothing. No other contract is it.
 pub record IsReducedFrom (d : Declarations) (fixings : Environment) (day : ℤ)
     (c rest : Contract) : Type 0 where
+  pub exact : rest ≡ reduced d fixings day c
   pub accepted : IsAccepted d rest
   pub carries : Carries d c day fixings 0 rest
   pub reduced : IsReduced d rest fixings day

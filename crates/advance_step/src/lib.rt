@@ -7,9 +7,9 @@
 //! ```
 //!
 //! Promised: `advance` and `into_advanced` answer the flows that are due and a contract without
-//! redexes that carries the first one on, or the first read that is not fixed (`Advances`).
-//! Only tested: which of several such contracts it answers, and that it does where there is memory
-//! (rows of `run_rows` and `library_rows`).
+//! redexes that carries the first one on, the one that `residual` is, or the first read that is not
+//! fixed (`Advances`).
+//! Only tested: that they answer if there is enough memory (rows of `run_rows` and `library_rows`).
 #![tactic(auto)]
 
 mod advancing;

@@ -1,7 +1,7 @@
 //! Laws of what runs answer: their statuses, and the texts that they print. Each is the contract of
 //! a function that does nothing.
 
-ghost use Rattle.command_answers.specs.AnswerLaws.{AnswersAreOne, StatusesAreOne, SummariesAreOne};
+ghost use Rattle.command_answers.specs.AnswerLaws.{AnswersAreOne, SummariesAreOne};
 ghost use Rattle.valuation_commands.specs.LawsNames.{DeclaredNamesHavePlaces};
 ghost use Rattle.lifecycle_commands.specs.LawsDueLines.{DueLinesAreOne, DueLinesOfNovateAreOne};
 ghost use Rattle.flow_commands.specs.DueOfFlows.{DueOfFlows};
@@ -82,13 +82,10 @@ pub fn causes_are_due()
     ensures expand { DueOfExpand }
 {}
 
-/// The bytes of the files of any command but `advance` and `novate` have one answer, a status and a
-/// text. Those of these two have one status, one line of a fault and the same due lines; what is
-/// left of a contract may be written in more than one way. The sample of a number of contracts has
-/// one summary.
+/// The bytes of the files of a command have one answer, a status and a text. Two texts of `advance`,
+/// or of `novate`, have the same due lines. The sample of a number of contracts has one summary.
 pub fn answers_are_one()
     ensures files { AnswersAreOne }
-    ensures statuses { StatusesAreOne }
     ensures due { DueLinesAreOne }
     ensures due_of_novate { DueLinesOfNovateAreOne }
     ensures sample { SummariesAreOne }

@@ -4,3 +4,4 @@ pub mod NovateFacts
 pub mod StageFacts
 pub mod SoundLifecycle
 pub mod DueAreOne
+pub mod TextsAreOne

@@ -16,8 +16,9 @@ reduce-requires t c =
     let special = c.in_ok-special.special.value in
     let next = c.in-Some.next in
     let is = next_is d special special c.in_ok-next.field-0 next refl c.in-Some.is c.in_ok-next.ensures.same in
-    let smaller : size_in (shared next.value) < size_in (shared special) = next_less special special c.in_ok-next.field-0 next refl c.in-Some.is c.in_ok-next.ensures.less in
-    let less : size_in (shared next.value) < size_in (shared c.args.s.now.value) = round_less (shared c.args.s.now.value) (shared special) (shared next.value) c.in_ok-special.ensures.told.smaller smaller in (
+    let less : size_in (shared next.value) < size_in (shared c.args.s.now.value) =
+    round_less (shared c.args.s.now.value) (shared special) (shared next.value) c.in_ok-special.ensures.told.smaller
+    (next_less special special c.in_ok-next.field-0 next refl c.in-Some.is c.in_ok-next.ensures.less) in (
       search rules,
       (
         accepted_through d (shared next.value) (shared special) is c.args.decls.now.labels_in c.in_ok-special.ensures.told.accepted,
@@ -39,7 +40,10 @@ returns-in-Some-clause-reduced t c =
     let there = to_z-of_z w64 f c.ranges.day in
     let exact : shared special ≡ specialised_in d F (Some f) (shared s) = subst (λ (h : ℤ). shared special ≡ specialised_in d F (Some h) (shared s)) there c.in_ok-special.ensures.told.exact in
     let is : shared next.value ≡ turned_in d [] (shared special) = next_is d special special c.in_ok-next.field-0 next refl c.in-Some.is c.in_ok-next.ensures.same in
-    round_then d F f s special next.value c.reduce.result c.args.decls.now.labels_in c.requires.admitted c.requires.accepted exact is
+    let less : size_in (shared next.value) < size_in (shared s) =
+    round_less (shared s) (shared special) (shared next.value) c.in_ok-special.ensures.told.smaller
+    (next_less special special c.in_ok-next.field-0 next refl c.in-Some.is c.in_ok-next.ensures.less) in
+    round_then d F f s special next.value c.reduce.result c.args.decls.now.labels_in c.requires.admitted c.requires.accepted exact is less
     (subst (λ (h : ℤ). IfOk c.reduce.result (λ r. IsReducedFrom d F h (shared next.value) (shared r.value))) there c.reduce.ensures.reduced)
 
 pub returns-in-None-clause-reduced : goal.returns-in-None-clause-reduced
