@@ -7,6 +7,5 @@ pub mod ValueSizeFacts
 pub mod SizeFacts
 pub mod TotalSizes
 pub mod BoundFacts
-pub mod SimpleFacts
 pub mod VerdictFacts
 mod Rows

@@ -4,7 +4,6 @@ pub mod SortTrials
 pub mod ScaleTrials
 pub mod SizeTrials
 pub mod BoundTrials
-pub mod SimpleTrials
 pub mod Verdicts
 pub mod CodeChecks
 pub mod CodeLaws

@@ -1,7 +1,7 @@
 -- Payoff code of parts that the program holds.
-use Rattle.std.specs.Prelude.{ℕ, ℤ, pos, []}
+use Rattle.std.specs.Prelude.{pos, []}
 use Rattle.payoff_terms.specs.TemplateDates.{Date, date}
-use Rattle.payoff_terms.specs.Code.{Lit, PayoffCode, Add, ScaleBy, LetBe, Loop, Cut}
+use Rattle.payoff_terms.specs.Code.{PayoffCode, Add, ScaleBy, LetBe, Loop, Cut}
 use Rattle.payoff_terms.specs.Code.{payoff_code, value_expression}
 use Rattle.payoff_terms.specs.declared.code.Code.{Code}
 use Rattle.payoff_terms.specs.declared.code.DateExpr.{DateExpr}
@@ -12,9 +12,6 @@ added left right = Add (payoff_code left) (payoff_code right)
 
 abbrev pub multiple : Vx → Code → PayoffCode
 multiple factor body = ScaleBy (value_expression factor) (payoff_code body)
-
-abbrev pub literal_multiple : ℤ → ℕ → Code → PayoffCode
-literal_multiple mant scale body = ScaleBy (Lit mant scale) (payoff_code body)
 
 abbrev pub naming : Vx → Code → PayoffCode
 naming bound body = LetBe (value_expression bound) (payoff_code body)

@@ -8,7 +8,6 @@ ghost use Rattle.payoff_check.specs.CodeChecks.{IsCheckedCode};
 
 use crate::bound_rule::bounds;
 use crate::scale_rule::scales;
-use crate::simple_code::simple_code;
 use crate::size_rule::sizes;
 use crate::sort_rule::sorts;
 use payoff_terms::CodeFile;
@@ -35,12 +34,6 @@ pub fn check_code(alloc: Global, file: &CodeFile, setting: &Setting) -> Result<C
     ensures { IsCheckedCode (declarations file.now.decls) setting.now.days.items
         (payoff_code file.now.code) result }
 {
-    if let Some(found) = simple_code(&file.decls, setting.days.as_slice(), &file.code) {
-        return Ok(CodeFacts {
-            scale: found.scale,
-            total: found.total as i128,
-        });
-    }
     sorts(alloc, &file.decls, setting, &file.code)?;
     let scale = scales(alloc, &file.decls, setting, &file.code)?;
     sizes(&file.decls, setting, &file.code)?;

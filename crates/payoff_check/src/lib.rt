@@ -19,7 +19,6 @@ mod faults;
 mod laws;
 mod part_sizes;
 mod scale_rule;
-mod simple_code;
 mod size_rule;
 mod sort_rule;
 mod totals;
