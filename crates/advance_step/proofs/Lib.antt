@@ -14,6 +14,7 @@ pub mod LeftSmall
 pub mod ReducingFacts
 pub mod RoundsEnd
 pub mod SameFixings
+pub mod SameMeaning
 pub mod RowsLeft
 pub mod SoonerFacts
 pub mod EntryFacts

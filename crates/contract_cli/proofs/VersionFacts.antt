@@ -22,6 +22,7 @@ use Rattle.flow_commands.specs.FlowsPromise.{IsLastDay}
 use Rattle.flow_eval.specs.declared.flow_table.FlowRow.{FlowRow}
 use Rattle.advance_step.specs.Advancing.{IsResidual}
 use Rattle.advance_step.proofs.ResidualFacts.{reduced_same}
+use Rattle.advance_step.proofs.SameMeaning.{residual_alike}
 use Rattle.lifecycle_commands.specs.AdvancePromise.{AreComments, AreDueLines, AreResiduals, IsNewDay}
 use Rattle.contract_cli.proofs.MigrateFacts.{flow_line, known_flows, meaning, next, still_accepted, verdict}
 
@@ -178,6 +179,7 @@ module _ (d : Declarations) (v : ℕ) where
 
   residual_there : (fixings : Environment) (first : ℤ) (days : ℕ) (c rest : Contract) → IsResidual d fixings first days c rest → IsResidual (next d v) fixings first days c rest
   residual_there fixings first days c rest h = record {
+    exact = λ env same. h.exact env same ∙ residual_alike d (next d v) (record { amounts = refl; labels = refl }) env first days c;
     accepted = (verdict d v).accepted rest h.accepted;
     carries = (verdict d v).carried c first fixings days rest h.carries;
     reduced = reduced_same d (next d v) (record { amounts = refl; labels = refl }) rest fixings (first +ℤ pos days) h.reduced;
