@@ -17,5 +17,9 @@ pub mod CurveRecordFacts
 pub mod CurveTableFacts
 pub mod CurveStepFacts
 pub mod CurveLawFacts
+pub mod WordFacts
+pub mod PlainFacts
+pub mod FrontFacts
+pub mod NameFacts
 mod RowsRecords
 mod RowsCurves

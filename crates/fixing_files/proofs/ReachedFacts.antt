@@ -11,14 +11,14 @@ use Rattle.fixing_files.specs.Records.{Fields}
 use Rattle.fixing_files.specs.Tables.{Table}
 
 -- what a record leaves
-abbrev Leaves : List ℕ → Read → Type 0
+abbrev pub Leaves : List ℕ → Read → Type 0
 Leaves xs r = (length r.2 < length xs) ⊎ ((xs ≡ []) × (r.1 ≡ st.StartRecord) × (r.2 ≡ []))
 
 at_end : (b : Bool) (q r : Read) → cond b (Some q) None ≡ Some r → q ≡ r
 at_end true q r e = cc
 at_end false q r e = absurd cc
 
-consumes : (cfg : Config) (s : State) (fields : List (List ℕ)) (field xs : List ℕ) (r : Read) → next_record cfg s fields field xs ≡ Some r → Leaves xs r
+pub consumes : (cfg : Config) (s : State) (fields : List (List ℕ)) (field xs : List ℕ) (r : Read) → next_record cfg s fields field xs ≡ Some r → Leaves xs r
 unfolding next_record
 consumes cfg s fields field [] r e =
     let is = at_end (ends_at_end s) _ r e in
@@ -30,7 +30,7 @@ consumes cfg s fields field (c ∷ rest) r e = elim (cases_Bool (is_end (step cf
       elim h [ inl shorter ↦ inl (omega arith) | inr last ↦ inl (omega (arith, ap length last.2)) ]
 ]
 
-none_left : (cfg : Config) (n : ℕ) → records_from cfg n st.StartRecord [] ≡ []
+pub none_left : (cfg : Config) (n : ℕ) → records_from cfg n st.StartRecord [] ≡ []
 unfolding records_from next_record
 none_left cfg zero = refl
 none_left cfg (suc n) = refl

@@ -17,3 +17,5 @@ pub mod CurveTables
 pub mod CurveSteps
 pub mod LawsCurves
 pub mod Knowledge
+pub mod Words
+pub mod PlainRows

@@ -45,8 +45,8 @@ pub fn is_header(record: &ByteRecord) -> bool
     }
 }
 
-// The place of a declared label, and what is declared.
-fn label_named(decls: &Decls, name: &[u8]) -> Option<(u32, Label)>
+/// The place of a declared label, and what is declared.
+pub fn label_named(decls: &Decls, name: &[u8]) -> Option<(u32, Label)>
     ensures place { option_map (λ p. p.0) result ≡ label_named (declarations decls.now) name.now }
     ensures declared { IfSome result (λ p. label_of (declarations decls.now) p.0 ≡ Some p.1) }
     ensures limits { IfSome result (λ p. is_label p.1 ≡ true) }
@@ -57,8 +57,8 @@ fn label_named(decls: &Decls, name: &[u8]) -> Option<(u32, Label)>
     }
 }
 
-// The day of a fixing.
-fn day_said(origin: Option<i64>, text: &[u8]) -> Option<i64>
+/// The day of a fixing.
+pub fn day_said(origin: Option<i64>, text: &[u8]) -> Option<i64>
     requires { is_origin origin ≡ true }
     ensures { result ≡ day_said origin text.now }
 {

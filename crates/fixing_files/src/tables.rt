@@ -13,6 +13,7 @@ use crate::blocks::blocks_of_all;
 use crate::faults::{RowErr, RowFault, RowKind, refused};
 use crate::fixings::Fixings;
 use crate::folds::{AllSettled, settle_all};
+use crate::fronts::{Front, front_of};
 use crate::reader::{MOST_READS, reader_of};
 use crate::records::{entry_of, is_header};
 use crate::rows::{Row, Run, take_row};
@@ -76,16 +77,21 @@ struct Gathered {
     fault: Option<RowFault>,
 }
 
-// Reads the rows of a table, one record after the other.
+// Reads the rows of a table: the plain ones that it begins with in one pass over their bytes, and
+// what follows them one record after the other.
 fn gather(alloc: Global, bytes: &[u8], decls: &Decls) -> Result<Gathered, NoMemory>
     requires { length bytes.now ≤ longest_file }
     ensures { IfOk result (λ g.
         Gathers (declarations decls.now) (table_of bytes.now) g.runs.items g.fault) }
 {
-    let mut reader = reader_of(alloc, bytes);
+    let Front {
+        records,
+        mut runs,
+        rest,
+    } = front_of(alloc, bytes, decls)?;
+    let mut reader = reader_of(alloc, rest);
     let mut record = ByteRecord::new(alloc);
-    let mut runs = Vec::new(alloc);
-    for read in 0..MOST_READS {
+    for read in records..MOST_READS {
         let Ok(found) = reader.read_byte_record(&mut record) else {
             return Err(NoMemory);
         };
@@ -110,8 +116,9 @@ fn gather(alloc: Global, bytes: &[u8], decls: &Decls) -> Result<Gathered, NoMemo
 /// record for each value, of a declared label on a day of the portfolio or a date. A number has at
 /// most as many decimals as its label and lies within its bounds. Two records may say the same of
 /// one place. `Row` names the first record that breaks a rule, by its number from 1, the header
-/// included. The records are read one by one, and the rows of a label are sorted only where their
-/// days do not rise.
+/// included. The rows that the table begins with are read in one pass, as long as they are plain
+/// ones, and what follows record by record. The rows of a label are sorted only where their days do
+/// not rise.
 pub fn read_fixings(alloc: Global, bytes: &[u8], decls: &Decls) -> Result<Fixings, RowErr>
     requires { length bytes.now ≤ longest_file }
     ensures answer { Answers (declarations decls.now) (table_of bytes.now) result }

@@ -1,12 +1,7 @@
-use Rattle.std.proofs.Common.{◌≡◌, length}
 use Rattle.term_model.specs.Declarations.{declarations}
-use Rattle.fixing_files.specs.Gathering.{Collects}
-use Rattle.fixing_files.specs.Readers.{HasRead}
-use Rattle.fixing_files.specs.Rows.{AreRuns}
-use Rattle.fixing_files.specs.Tables.{Table, table_of}
+use Rattle.fixing_files.specs.Tables.{table_of}
+use Rattle.fixing_files.proofs.FrontFacts.{ReadsOn}
 use Rattle.fixing_files.proofs.tables.gather.Given as goal
 
 abbrev pub invariant-loop-read : goal.invariant-loop-read
-invariant-loop-read l = (t : Table) × HasRead l.fn.bytes t l.reader × (l.read ≡ length t)
-    × AreRuns l.runs.items
-    × Collects (declarations l.fn.decls) (table_of l.fn.bytes) l.read l.runs.items
+invariant-loop-read l = ReadsOn (declarations l.fn.decls) (table_of l.fn.bytes) l.reader l.read l.runs.items
