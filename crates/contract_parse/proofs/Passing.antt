@@ -1,14 +1,15 @@
 -- What is spelled as one token is taken where it is expected.
-use Rattle.std.proofs.Common.{◌≡◌, ◌∙◌, Bool, true, false, Result, Ok, Err, IfOk, IsErrAnd, List, [], ◌∷◌, refl}
+use Rattle.std.proofs.Common.{◌≡◌, ◌∙◌, ◌≤◌, ℕ, Bool, true, false, Result, Ok, Err, IfOk, IsErrAnd, List, [], ◌∷◌, length, refl, sym, subst, arith}
 use Rattle.std.specs.Str.{bytes_eq}
-use Rattle.std.proofs.lemmas.Result.{err_from_is_err_and}
-use Rattle.contract_grammar.specs.Tokens.{Tok}
+use Rattle.std.proofs.lemmas.Result.{IfOk-weaker, err_from_is_err_and}
+use Rattle.contract_grammar.specs.Tokens.{Tok, tokens}
 use Rattle.contract_grammar.specs.Words.{Bytes, is_the_mark}
 use Rattle.contract_grammar.specs.Names.{DeclaredNames}
 use Rattle.contract_grammar.specs.Spelling.{Part, mark, one, valued, word}
 use Rattle.contract_parse.specs.Expecting.{Leaves, Outcome, Expected, TheMark, TheWord, Next, Open, run, step}
-use Rattle.contract_parse.specs.Reading.{LacksMark}
-use Rattle.contract_parse.specs.Readers.{Ahead, Going, ReadsAhead}
+use Rattle.contract_parse.specs.Reading.{LacksMark, tok_of, tokens_after}
+use Rattle.contract_parse.specs.declared.token.Lexeme.{Lexeme}
+use Rattle.contract_parse.specs.Readers.{Ahead, Going, Reads, ReadsAhead, ahead_in, ahead_of}
 use Rattle.contract_parse.specs.declared.faults.PartErr.{PartErr}
 use Rattle.contract_parse.proofs.Steps.{run-next}
 use Rattle.contract_grammar.specs.declared.faults.TextKind.{TextKind}
@@ -60,3 +61,14 @@ mark_lacks m other ts rest differ (t, is, passes) = record { first = t; after = 
 -- where a word stands, a mark does not
 pub word_lacks : (w other : Bytes) (ts rest : List Tok) → word w ts rest → LacksMark other ts
 word_lacks w other ts rest (t, is, passes) = record { first = t; after = rest; is = is; other = of_word (λ z. is_the_mark other z ≡ false) w t passes refl }
+
+-- what is read behind a token that was read on is read from where the token stands
+pub read_on : {X : Type 0} {Goes : Going X} {part whole : X → Part} (behind : X → List ℕ) (t : Lexeme) (after rest : List ℕ) (result : Result X PartErr)
+    → tokens rest ≡ tok_of t ∷ tokens_after t.kind after → length after ≤ length rest
+    → ((r : X) (ts us : List Tok) → part r ts us → whole r ts us)
+    → ReadsAhead Goes part (λ r. ahead_in (behind r)) (ahead_of t after) result → Reads Goes whole behind rest result
+read_on {X} {Goes} {part} {whole} behind t after rest result starts within is h = record {
+  follows = subst (λ ts. Goes (λ r. tokens (behind r)) ts result) (sym starts) h.follows;
+  spelled = IfOk-weaker result _ _ (λ r x. is r (tokens rest) (tokens (behind r)) (subst (λ ts. part r ts (tokens (behind r))) (sym starts) x)) h.spelled;
+  shorter = IfOk-weaker result _ _ (λ r x. omega (arith, x, within)) h.shorter;
+}

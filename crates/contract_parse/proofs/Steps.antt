@@ -42,6 +42,10 @@ module _ {X : Type 0} (judge : Tok → Result X TextKind) (ends : Ends judge) wh
   pub takes : (x : X) (t : Tok) (bytes rest : List ℕ) → tokens bytes ≡ t ∷ tokens_after t.kind rest → Ok x ≡ judge t → tokens bytes ≡ t ∷ tokens rest
   takes x t bytes rest starts e = starts ∙ ap (λ b. t ∷ cond b [] (tokens rest)) (kind_more x t.kind t.text t.left (sym e))
 
+  -- the same of a token that was read on
+  pub takes_on : (x : X) (t : Tok) (rest : List ℕ) → Ok x ≡ judge t → t ∷ tokens_after t.kind rest ≡ t ∷ tokens rest
+  takes_on x t rest e = ap (λ b. t ∷ cond b [] (tokens rest)) (kind_more x t.kind t.text t.left (sym e))
+
   -- the token is spelled
   pub spells : (x : X) (t : Tok) (bytes rest : List ℕ) → tokens bytes ≡ t ∷ tokens_after t.kind rest → Ok x ≡ judge t → valued judge x (tokens bytes) (tokens rest)
   spells x t bytes rest starts e = (t, takes x t bytes rest starts e, sym e)
@@ -51,11 +55,19 @@ module _ {X : Type 0} (judge : Tok → Result X TextKind) (ends : Ends judge) wh
       → step s ps t ≡ judged (judge t) next → next x ≡ Next s2 qs → run s ps (tokens bytes) ≡ run s2 qs (tokens rest)
   passes s s2 ps qs next x t bytes rest starts e shape goes = rw (takes x t bytes rest starts e) (run-next s s2 ps qs t (tokens rest) (shape ∙ ap (λ r. judged r next) (sym e) ∙ goes))
 
+  pub passes_on : (s s2 : DeclaredNames) (ps qs : List Expected) (next : X → Step) (x : X) (t : Tok) (rest : List ℕ) → Ok x ≡ judge t
+      → step s ps t ≡ judged (judge t) next → next x ≡ Next s2 qs → run s ps (t ∷ tokens_after t.kind rest) ≡ run s2 qs (tokens rest)
+  passes_on s s2 ps qs next x t rest e shape goes = rw (takes_on x t rest e) (run-next s s2 ps qs t (tokens rest) (shape ∙ ap (λ r. judged r next) (sym e) ∙ goes))
+
 -- the token is at fault
 pub refuses : {X : Type 0} (judge : Tok → Result X TextKind) (s : DeclaredNames) (ps : List Expected) (next : X → Step) (kind : TextKind) (t : Tok) (bytes rest : List ℕ) → tokens bytes ≡ t ∷ tokens_after t.kind rest
     → Err kind ≡ judge t → step s ps t ≡ judged (judge t) next → run s ps (tokens bytes) ≡ Stops kind t.left
 refuses judge s ps next kind t bytes rest starts e shape =
     rw starts (run-refuse s ps kind t (tokens_after t.kind rest) (shape ∙ ap (λ r. judged r next) (sym e)))
+
+pub refuses_on : {X : Type 0} (judge : Tok → Result X TextKind) (s : DeclaredNames) (ps : List Expected) (next : X → Step) (kind : TextKind) (t : Tok) (rest : List ℕ)
+    → Err kind ≡ judge t → step s ps t ≡ judged (judge t) next → run s ps (t ∷ tokens_after t.kind rest) ≡ Stops kind t.left
+refuses_on judge s ps next kind t rest e shape = run-refuse s ps kind t (tokens_after t.kind rest) (shape ∙ ap (λ r. judged r next) (sym e))
 
 -- the same for a test
 abbrev pub Fails : (Tok → Bool) → Type 0

@@ -8,7 +8,7 @@ use Rattle.contract_grammar.specs.Versions.{Version, One, Two}
 use Rattle.contract_grammar.specs.Names.{DeclaredNames, names_of, with_names}
 use Rattle.contract_grammar.specs.Judgements.{binder_at, bound_at, date_number_at, days_at, integer_at, is_the_version, is_version, literal_at, mode_at, new_at, offset_at, operator_at, origin_at, separator_at, use_at}
 use Rattle.contract_grammar.specs.Sums.{Tally, item_at, no_items}
-use Rattle.contract_parse.specs.Heads.{amount_head_at, first_at, head_at}
+use Rattle.contract_parse.specs.Heads.{Beginning, OfNumber, OfName, OfForm, amount_head_at, first_at, head_at}
 use Rattle.contract_grammar.specs.declared.names.NameSet.{NameSet}
 use Rattle.contract_grammar.specs.declared.names.NameSet.TheVariants.{Party, Asset, Label, Template, Contract}
 use Rattle.contract_grammar.specs.declared.terms.Language.{Language}
@@ -130,30 +130,34 @@ abbrev pub leaf_expected : DeclaredNames → Language → List Expected → List
 leaf_expected s Language.Contracts ps = pair_expected (UseOf s.labels) OffsetAt ps
 leaf_expected s Language.Code ps = TheMark (codes "(") ∷ UseOf s.labels ∷ TheMark (codes ",") ∷ date_expected (TheMark (codes ")") ∷ ps)
 
--- what follows the first token of an expression
-abbrev pub expr_expected : DeclaredNames → Language → ℕ → List Bytes → First → List Expected → List Expected
-expr_expected s l d names (First.Number number) ps = ps
-expr_expected s l d names (First.Name back) ps = ps
-expr_expected s l d names First.True ps = ps
-expr_expected s l d names First.False ps = ps
-expr_expected s l d names First.Minus ps = LiteralNumber true ∷ ps
-expr_expected s l d names First.Open ps = ExprAt l (d + 1) names ∷ OperatorAt ∷ ExprAt l (d + 1) names ∷ TheMark (codes ")") ∷ ps
-expr_expected s l d names First.Obs ps = leaf_expected s l ps
-expr_expected s l d names First.Neg ps = operand_expected (ExprAt l (d + 1) names) ps
-expr_expected s l d names First.Not ps = operand_expected (ExprAt l (d + 1) names) ps
-expr_expected s l d names First.Min ps = pair_expected (ExprAt l (d + 1) names) (ExprAt l (d + 1) names) ps
-expr_expected s l d names First.Max ps = pair_expected (ExprAt l (d + 1) names) (ExprAt l (d + 1) names) ps
-expr_expected s l d names First.If ps =
+-- what follows the word or mark of a form of expressions
+abbrev pub form_expected : DeclaredNames → Language → ℕ → List Bytes → First → List Expected → List Expected
+form_expected s l d names First.True ps = ps
+form_expected s l d names First.False ps = ps
+form_expected s l d names First.Minus ps = LiteralNumber true ∷ ps
+form_expected s l d names First.Open ps = ExprAt l (d + 1) names ∷ OperatorAt ∷ ExprAt l (d + 1) names ∷ TheMark (codes ")") ∷ ps
+form_expected s l d names First.Obs ps = leaf_expected s l ps
+form_expected s l d names First.Neg ps = operand_expected (ExprAt l (d + 1) names) ps
+form_expected s l d names First.Not ps = operand_expected (ExprAt l (d + 1) names) ps
+form_expected s l d names First.Min ps = pair_expected (ExprAt l (d + 1) names) (ExprAt l (d + 1) names) ps
+form_expected s l d names First.Max ps = pair_expected (ExprAt l (d + 1) names) (ExprAt l (d + 1) names) ps
+form_expected s l d names First.If ps =
     TheMark (codes "(") ∷ ExprAt l (d + 1) names ∷ TheMark (codes ",") ∷ ExprAt l (d + 1) names ∷ TheMark (codes ",")
     ∷ ExprAt l (d + 1) names ∷ TheMark (codes ")") ∷ ps
-expr_expected s l d names First.Widen ps = pair_expected (IntegerAt 27) (ExprAt l (d + 1) names) ps
-expr_expected s l d names First.Round ps =
+form_expected s l d names First.Widen ps = pair_expected (IntegerAt 27) (ExprAt l (d + 1) names) ps
+form_expected s l d names First.Round ps =
     TheMark (codes "(") ∷ ModeAt ∷ TheMark (codes ",") ∷ IntegerAt 27 ∷ TheMark (codes ",")
     ∷ ExprAt l (d + 1) names ∷ TheMark (codes ")") ∷ ps
-expr_expected s l d names First.Div ps =
+form_expected s l d names First.Div ps =
     TheMark (codes "(") ∷ ModeAt ∷ TheMark (codes ",") ∷ IntegerAt 27 ∷ TheMark (codes ",") ∷ ExprAt l (d + 1) names ∷ TheMark (codes ",")
     ∷ ExprAt l (d + 1) names ∷ TheMark (codes ")") ∷ ps
-expr_expected s l d names First.Acc ps = TheMark (codes "(") ∷ BinderAt binder.Acc l One d names ∷ ps
+form_expected s l d names First.Acc ps = TheMark (codes "(") ∷ BinderAt binder.Acc l One d names ∷ ps
+
+-- what follows what an expression begins with
+abbrev pub expr_expected : DeclaredNames → Language → ℕ → List Bytes → Beginning → List Expected → List Expected
+expr_expected s l d names (OfNumber number) ps = ps
+expr_expected s l d names (OfName back) ps = ps
+expr_expected s l d names (OfForm first) ps = form_expected s l d names first ps
 
 -- what follows the first token of a contract
 abbrev pub contr_expected : DeclaredNames → Version → ℕ → List Bytes → Head → List Expected → List Expected

@@ -1,6 +1,6 @@
 -- What a term begins with: the first token decides its form. Contracts and payoff code differ in the word that reads an
 -- observable, and in how many terms may be open at once.
-use Rattle.std.specs.Prelude.{◌≡◌, ℕ, Bool, true, false, List, Result, Ok, Err, codes, nat_lt, if◌then◌else◌}
+use Rattle.std.specs.Prelude.{◌≡◌, ℕ, Bool, true, false, List, Option, Some, None, Result, Ok, Err, codes, nat_lt, if◌then◌else◌}
 use Rattle.decimal.specs.declared.Decimal.{Decimal}
 use Rattle.contract_grammar.specs.Tokens.{Tok}
 use Rattle.contract_grammar.specs.Words.{Bytes, is_the_word, is_the_mark, is_name, is_number}
@@ -21,39 +21,55 @@ abbrev pub greatest_depth : Language → ℕ
 greatest_depth Language.Contracts = 200
 greatest_depth Language.Code = 400
 
-abbrev pub first_number : Result Decimal TextKind → Result First TextKind
-first_number (Ok d) = Ok (First.Number d)
+-- what an expression begins with: a number, the name of a binder, or the word or mark of a form
+pub data Beginning : Type 0 where
+  OfNumber : (number : Decimal) → Beginning
+  OfName : (back : ℕ) → Beginning
+  OfForm : (first : First) → Beginning
+
+abbrev pub first_number : Result Decimal TextKind → Result Beginning TextKind
+first_number (Ok d) = Ok (OfNumber d)
 first_number (Err kind) = Err kind
 
-abbrev pub first_name : Result ℕ TextKind → Result First TextKind
-first_name (Ok back) = Ok (First.Name back)
+abbrev pub first_name : Result ℕ TextKind → Result Beginning TextKind
+first_name (Ok back) = Ok (OfName back)
 first_name (Err kind) = Err kind
 
 -- a reserved word that begins an expression
-abbrev pub first_word : Language → Tok → Result First TextKind
+abbrev pub first_word : Language → Tok → Result Beginning TextKind
 first_word l t =
-    if is_the_word (codes "true") t then Ok First.True
-    else if is_the_word (codes "false") t then Ok First.False
-    else if is_the_word (codes "neg") t then Ok First.Neg
-    else if is_the_word (codes "not") t then Ok First.Not
-    else if is_the_word (codes "min") t then Ok First.Min
-    else if is_the_word (codes "max") t then Ok First.Max
-    else if is_the_word (codes "if") t then Ok First.If
-    else if is_the_word (codes "widen") t then Ok First.Widen
-    else if is_the_word (codes "round") t then Ok First.Round
-    else if is_the_word (codes "div") t then Ok First.Div
-    else if is_the_word (codes "acc") t then Ok First.Acc
-    else if is_the_word (leaf_word l) t then Ok First.Obs
+    if is_the_word (codes "true") t then Ok (OfForm First.True)
+    else if is_the_word (codes "false") t then Ok (OfForm First.False)
+    else if is_the_word (codes "neg") t then Ok (OfForm First.Neg)
+    else if is_the_word (codes "not") t then Ok (OfForm First.Not)
+    else if is_the_word (codes "min") t then Ok (OfForm First.Min)
+    else if is_the_word (codes "max") t then Ok (OfForm First.Max)
+    else if is_the_word (codes "if") t then Ok (OfForm First.If)
+    else if is_the_word (codes "widen") t then Ok (OfForm First.Widen)
+    else if is_the_word (codes "round") t then Ok (OfForm First.Round)
+    else if is_the_word (codes "div") t then Ok (OfForm First.Div)
+    else if is_the_word (codes "acc") t then Ok (OfForm First.Acc)
+    else if is_the_word (leaf_word l) t then Ok (OfForm First.Obs)
     else Err Syntax
 
+-- the word or mark of a form
+abbrev pub form_at : Language → Tok → Result Beginning TextKind
+form_at l t =
+    if is_the_mark (codes "-") t then Ok (OfForm First.Minus)
+    else if is_the_mark (codes "(") t then Ok (OfForm First.Open)
+    else first_word l t
+
+-- a form that was found, or the fault of a token that begins none
+abbrev pub or_none_begins : Option First → Result Beginning TextKind
+or_none_begins (Some first) = Ok (OfForm first)
+or_none_begins None = Err Syntax
+
 -- what an expression begins with, under the names that are bound round it
-abbrev pub first_of : Language → List Bytes → Tok → Result First TextKind
+abbrev pub first_of : Language → List Bytes → Tok → Result Beginning TextKind
 first_of l names t =
     if is_number t then first_number (literal_at false t)
     else if is_name t then first_name (variable_at names t)
-    else if is_the_mark (codes "-") t then Ok First.Minus
-    else if is_the_mark (codes "(") t then Ok First.Open
-    else first_word l t
+    else form_at l t
 
 -- the faults that come before that of the depth
 abbrev pub is_before_depth : TextKind → Bool
@@ -71,7 +87,7 @@ abbrev pub within_depth : {X : Type 0} → Language → ℕ → Result X TextKin
 within_depth l depth (Ok x) = if nat_lt (greatest_depth l) depth then Err Deep else Ok x
 within_depth l depth (Err kind) = if is_before_depth kind then Err kind else if nat_lt (greatest_depth l) depth then Err Deep else Err kind
 
-abbrev pub first_at : Language → ℕ → List Bytes → Tok → Result First TextKind
+abbrev pub first_at : Language → ℕ → List Bytes → Tok → Result Beginning TextKind
 first_at l depth names t = within_depth l depth (first_of l names t)
 
 -- what a contract begins with
@@ -104,24 +120,22 @@ amount_head_of t =
 abbrev pub amount_head_at : ℕ → Tok → Result AmountHead TextKind
 amount_head_at depth t = within_depth Language.Code depth (amount_head_of t)
 
--- what the token is that an expression begins with
-abbrev pub Begins : Language → List Bytes → Tok → First → Type 0
-Begins language names t (First.Number d) = literal_at false t ≡ Ok d
-Begins language names t (First.Name back) = variable_at names t ≡ Ok back
-Begins language names t First.True = is_the_word (codes "true") t ≡ true
-Begins language names t First.False = is_the_word (codes "false") t ≡ true
-Begins language names t First.Minus = is_the_mark (codes "-") t ≡ true
-Begins language names t First.Open = is_the_mark (codes "(") t ≡ true
-Begins language names t First.Obs = is_the_word (leaf_word language) t ≡ true
-Begins language names t First.Neg = is_the_word (codes "neg") t ≡ true
-Begins language names t First.Not = is_the_word (codes "not") t ≡ true
-Begins language names t First.Min = is_the_word (codes "min") t ≡ true
-Begins language names t First.Max = is_the_word (codes "max") t ≡ true
-Begins language names t First.If = is_the_word (codes "if") t ≡ true
-Begins language names t First.Widen = is_the_word (codes "widen") t ≡ true
-Begins language names t First.Round = is_the_word (codes "round") t ≡ true
-Begins language names t First.Div = is_the_word (codes "div") t ≡ true
-Begins language names t First.Acc = is_the_word (codes "acc") t ≡ true
+-- what the token is that a form of expressions begins with
+abbrev pub BeginsForm : Language → Tok → First → Type 0
+BeginsForm language t First.True = is_the_word (codes "true") t ≡ true
+BeginsForm language t First.False = is_the_word (codes "false") t ≡ true
+BeginsForm language t First.Minus = is_the_mark (codes "-") t ≡ true
+BeginsForm language t First.Open = is_the_mark (codes "(") t ≡ true
+BeginsForm language t First.Obs = is_the_word (leaf_word language) t ≡ true
+BeginsForm language t First.Neg = is_the_word (codes "neg") t ≡ true
+BeginsForm language t First.Not = is_the_word (codes "not") t ≡ true
+BeginsForm language t First.Min = is_the_word (codes "min") t ≡ true
+BeginsForm language t First.Max = is_the_word (codes "max") t ≡ true
+BeginsForm language t First.If = is_the_word (codes "if") t ≡ true
+BeginsForm language t First.Widen = is_the_word (codes "widen") t ≡ true
+BeginsForm language t First.Round = is_the_word (codes "round") t ≡ true
+BeginsForm language t First.Div = is_the_word (codes "div") t ≡ true
+BeginsForm language t First.Acc = is_the_word (codes "acc") t ≡ true
 
 -- what the token is that a contract begins with
 abbrev pub BeginsContract : Tok → Head → Type 0

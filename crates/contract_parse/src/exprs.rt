@@ -1,5 +1,5 @@
 //! Expressions from texts.
-ghost use Rattle.std.specs.Prelude.{◌≡◌, ◌≤◌, ◌<◌, ◌+◌, ◌∷◌, IfOk, OnOk, codes, length, max, true};
+ghost use Rattle.std.specs.Prelude.{◌≡◌, ◌≤◌, ◌<◌, ◌+◌, ◌∷◌, Err, IfOk, OnOk, codes, false, length, max, true};
 ghost use Rattle.term_model.specs.Limits.{most_days};
 ghost use Rattle.term_model.specs.Terms.{Lit, expression};
 ghost use Rattle.term_model.specs.Sizes.{height};
@@ -7,21 +7,24 @@ ghost use Rattle.contract_parse.specs.Frames.{PassesAt, an_expression_here, expr
 ghost use Rattle.contract_grammar.specs.Judgements.{binder_at, integer_at, mode_at};
 ghost use Rattle.contract_grammar.specs.Spelling.{expr, mark, pair, valued, ◌⨟◌};
 ghost use Rattle.contract_parse.specs.Expecting.{IntegerAt, LiteralNumber, ModeAt, TheMark, operand_expected, pair_expected};
-ghost use Rattle.contract_parse.specs.Reading.{joined};
-ghost use Rattle.contract_parse.specs.Heads.{greatest_depth};
-ghost use Rattle.contract_parse.specs.Readers.{Binds, KeepsLeaves, PassesAnywhere, Reads, behind_part, behind_sign, behind_word, first_token};
+ghost use Rattle.contract_grammar.specs.Words.{is_number};
+ghost use Rattle.contract_parse.specs.Reading.{joined, tok_of};
+ghost use Rattle.contract_parse.specs.Heads.{form_at, greatest_depth};
+ghost use Rattle.contract_parse.specs.Readers.{Binds, KeepsLeaves, PassesAnywhere, Reads, ReadsAhead, ahead_in, ahead_of, behind_part, behind_sign, behind_word, first_token, name_part, number_part};
 
 use crate::faults::PartErr;
 use crate::frame::Frame;
-use crate::heads::{First, first_at};
+use crate::heads::{First, form_at, greatest_depth};
 use crate::judges::refuse;
 use crate::leaves::LeafReader;
+use crate::names::back_to;
 use crate::readers::{
     read_binder, read_integer, read_literal, read_mode, read_operator, skip_mark,
 };
-use crate::words::next;
-use contract_grammar::Operator;
-use decimal::{Decimal, Mode};
+use crate::token::Lexeme;
+use crate::words::{is_name, is_number, next};
+use contract_grammar::{Language, Operator, TextKind};
+use decimal::{Decimal, Mode, decimal_of};
 use std::alloc::Global;
 use term_model::{Expr, MOST_DAYS, NumOp, Scope};
 
@@ -449,7 +452,7 @@ fn read_behind_first<'a, L: LeafReader>(
     requires shallow { frame.now.depth ≤ greatest_depth L.LANGUAGE }
     requires room { length (names_at frame.now) < frame.now.depth }
     ensures reads { Reads (PassesAt frame.now (expected_behind_first L.LANGUAGE frame.now first))
-        (λ r. behind_part (first_token L.LANGUAGE (names_at frame.now) first)
+        (λ r. behind_part (first_token L.LANGUAGE first)
         (expression_at (L.leaf leaves.new) frame.now r.0))
         (λ r. r.1.now) rest.now result }
     ensures high { IfOk result
@@ -457,8 +460,6 @@ fn read_behind_first<'a, L: LeafReader>(
     ensures kept { OnOk result (KeepsLeaves (L.leaf leaves.old) (L.leaf leaves.new)) }
 {
     match first {
-        First::Number { number } => Ok((literal(number), rest)),
-        First::Name { back } => Ok((Expr::Var { back }, rest)),
         First::True => Ok((Expr::Yes { value: true }, rest)),
         First::False => Ok((Expr::Yes { value: false }, rest)),
         First::Minus => read_negative(rest),
@@ -473,6 +474,58 @@ fn read_behind_first<'a, L: LeafReader>(
         First::Round => read_round(alloc, leaves, frame, rest),
         First::Div => read_div(alloc, leaves, frame, rest),
         First::Acc => read_acc(alloc, leaves, frame, rest),
+    }
+}
+
+// A number that stands in a frame.
+fn read_number<'a>(
+    language: Language,
+    frame: &Frame,
+    token: &Lexeme<'a>,
+    after: &'a [u8],
+) -> Result<(Expr, &'a [u8]), PartErr>
+    requires { is_number (tok_of token.now) ≡ true }
+    ensures reads { ReadsAhead
+        (PassesAt frame.now (λ s ps. an_expression_here language frame.now ∷ ps))
+        (λ r. number_part r.0)
+        (λ r. ahead_in r.1.now) (ahead_of token.now after.now) result }
+    ensures high { IfOk result
+        (λ r. height (expression r.0) + frame.now.depth ≤ greatest_depth language) }
+{
+    let Some(number) = decimal_of(token.text) else {
+        return Err(refuse(TextKind::Number, token));
+    };
+    if frame.depth >= greatest_depth(language) {
+        return Err(refuse(TextKind::Deep, token));
+    }
+    Ok((literal(number), after))
+}
+
+// A bound name that stands in a frame, where no number and no form does.
+fn read_name<'a>(
+    language: Language,
+    frame: &Frame,
+    token: &Lexeme<'a>,
+    after: &'a [u8],
+) -> Result<(Expr, &'a [u8]), PartErr>
+    requires no_number { is_number (tok_of token.now) ≡ false }
+    requires no_form { form_at language (tok_of token.now) ≡ Err TextKind.Syntax }
+    ensures reads { ReadsAhead
+        (PassesAt frame.now (λ s ps. an_expression_here language frame.now ∷ ps))
+        (λ r. name_part (names_at frame.now) r.0)
+        (λ r. ahead_in r.1.now) (ahead_of token.now after.now) result }
+    ensures high { IfOk result
+        (λ r. height (expression r.0) + frame.now.depth ≤ greatest_depth language) }
+{
+    if !is_name(token) {
+        return Err(refuse(TextKind::Syntax, token));
+    }
+    if frame.depth >= greatest_depth(language) {
+        return Err(refuse(TextKind::Deep, token));
+    }
+    match back_to(frame.bound, token.text) {
+        Some(back) => Ok((Expr::Var { back }, after)),
+        None => Err(refuse(TextKind::Unknown, token)),
     }
 }
 
@@ -492,9 +545,16 @@ pub fn read_expr<'a, L: LeafReader>(
         (λ r. height (expression r.0) + frame.now.depth ≤ greatest_depth L.LANGUAGE) }
     ensures kept { OnOk result (KeepsLeaves (L.leaf leaves.old) (L.leaf leaves.new)) }
 {
+    let language = L::LANGUAGE;
     let (token, after) = next(rest);
-    match first_at(L::LANGUAGE, frame.bound, frame.depth + 1, &token) {
-        Ok(first) => {
+    if is_number(&token) {
+        return read_number(language, frame, &token, after);
+    }
+    match form_at(language, &token) {
+        Some(first) => {
+            if frame.depth >= greatest_depth(language) {
+                return Err(refuse(TextKind::Deep, &token));
+            }
             let inner = Frame {
                 decls: frame.decls,
                 bound: frame.bound,
@@ -502,6 +562,6 @@ pub fn read_expr<'a, L: LeafReader>(
             };
             read_behind_first(first, alloc, leaves, &inner, after)
         }
-        Err(kind) => Err(refuse(kind, &token)),
+        None => read_name(language, frame, &token, after),
     }
 }

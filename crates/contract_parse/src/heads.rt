@@ -1,24 +1,17 @@
 //! What a term begins with.
-ghost use Rattle.std.specs.Prelude.{◌≡◌, ◌≤◌, ◌+◌, false, length};
-ghost use Rattle.term_model.specs.Limits.{most_height_of_code};
-ghost use Rattle.contract_grammar.specs.Words.{is_the_word};
-ghost use Rattle.contract_grammar.specs.Names.{names_in};
-ghost use Rattle.contract_grammar.specs.Judgements.{literal_at, variable_at};
-ghost use Rattle.contract_parse.specs.Heads.{amount_head_at, amount_head_of, first_at, first_name, first_number, first_of, first_word, greatest_depth, head_at, head_of, leaf_word};
+ghost use Rattle.std.specs.Prelude.{◌≡◌, ◌≤◌, ◌<◌, length, true};
+ghost use Rattle.contract_grammar.specs.Words.{is_mark_kind, is_word_kind};
+ghost use Rattle.contract_parse.specs.Heads.{amount_head_at, amount_head_of, first_word, form_at, greatest_depth, head_at, head_of, or_none_begins};
 ghost use Rattle.contract_parse.specs.Reading.{tok_of};
+ghost use Rattle.contract_grammar.specs.declared.terms.Language.{Language};
 
-use crate::judges::{literal_at, variable_at};
 use crate::token::Lexeme;
-use crate::words::{is_name, is_number, is_the_mark, is_the_word};
 use contract_grammar::{Language, LexemeKind, TextKind};
-use decimal::Decimal;
-use term_model::{MOST_HEIGHT, MOST_HEIGHT_OF_CODE, Scope};
+use term_model::{MOST_HEIGHT, MOST_HEIGHT_OF_CODE};
 
-/// What an expression begins with.
+/// The form of an expression that begins with a word or a mark. The others are numbers and names.
 #[derive(Clone, Copy)]
 pub enum First {
-    Number { number: Decimal },
-    Name { back: u32 },
     True,
     False,
     Minus,
@@ -76,95 +69,79 @@ pub fn greatest_depth(language: Language) -> u32
     }
 }
 
-// Whether the word that reads an observable stands here.
-fn is_leaf_word(language: Language, token: &Lexeme<'_>) -> bool
-    ensures { result ≡ is_the_word (leaf_word language) (tok_of token.now) }
+// A form whose word has two or three letters.
+fn short_word_at(language: Language, token: &Lexeme<'_>) -> Option<First>
+    requires { length token.now.text.now < 4 }
+    ensures { is_word_kind token.now.kind ≡ true
+        → or_none_begins result ≡ first_word language (tok_of token.now) }
 {
-    match language {
-        Language::Contracts => is_the_word(token, b"obs"),
-        Language::Code => is_the_word(token, b"model"),
+    match token.text {
+        b"if" => Some(First::If),
+        b"neg" => Some(First::Neg),
+        b"not" => Some(First::Not),
+        b"min" => Some(First::Min),
+        b"max" => Some(First::Max),
+        b"div" => Some(First::Div),
+        b"acc" => Some(First::Acc),
+        b"obs" => match language {
+            Language::Contracts => Some(First::Obs),
+            Language::Code => None,
+        },
+        _ => None,
     }
 }
 
-fn first_word(language: Language, token: &Lexeme<'_>) -> Result<First, TextKind>
-    ensures { result ≡ first_word language (tok_of token.now) }
+// A form whose word is longer.
+fn long_word_at(language: Language, token: &Lexeme<'_>) -> Option<First>
+    requires { 4 ≤ length token.now.text.now }
+    ensures { is_word_kind token.now.kind ≡ true
+        → or_none_begins result ≡ first_word language (tok_of token.now) }
 {
-    if is_the_word(token, b"true") {
-        Ok(First::True)
-    } else if is_the_word(token, b"false") {
-        Ok(First::False)
-    } else if is_the_word(token, b"neg") {
-        Ok(First::Neg)
-    } else if is_the_word(token, b"not") {
-        Ok(First::Not)
-    } else if is_the_word(token, b"min") {
-        Ok(First::Min)
-    } else if is_the_word(token, b"max") {
-        Ok(First::Max)
-    } else if is_the_word(token, b"if") {
-        Ok(First::If)
-    } else if is_the_word(token, b"widen") {
-        Ok(First::Widen)
-    } else if is_the_word(token, b"round") {
-        Ok(First::Round)
-    } else if is_the_word(token, b"div") {
-        Ok(First::Div)
-    } else if is_the_word(token, b"acc") {
-        Ok(First::Acc)
-    } else if is_leaf_word(language, token) {
-        Ok(First::Obs)
+    match token.text {
+        b"true" => Some(First::True),
+        b"false" => Some(First::False),
+        b"widen" => Some(First::Widen),
+        b"round" => Some(First::Round),
+        b"model" => match language {
+            Language::Contracts => None,
+            Language::Code => Some(First::Obs),
+        },
+        _ => None,
+    }
+}
+
+// A form that a word begins. The length is looked at first: it tells the words apart.
+fn word_at(language: Language, token: &Lexeme<'_>) -> Option<First>
+    ensures { is_word_kind token.now.kind ≡ true
+        → or_none_begins result ≡ first_word language (tok_of token.now) }
+{
+    if token.text.len() < 4 {
+        short_word_at(language, token)
     } else {
-        Err(TextKind::Syntax)
+        long_word_at(language, token)
     }
 }
 
-fn first_number(token: &Lexeme<'_>) -> Result<First, TextKind>
-    ensures { result ≡ first_number (literal_at false (tok_of token.now)) }
+// A form that a mark begins.
+fn mark_at(token: &Lexeme<'_>) -> Option<First>
+    ensures { (language : Language) → is_mark_kind token.now.kind ≡ true
+        → or_none_begins result ≡ form_at language (tok_of token.now) }
 {
-    let number = literal_at(false, token)?;
-    Ok(First::Number { number })
-}
-
-fn first_name(bound: &Scope<&[u8]>, token: &Lexeme<'_>) -> Result<First, TextKind>
-    requires { length (names_in bound.now) ≤ most_height_of_code + 1 }
-    ensures { result ≡ first_name (variable_at (names_in bound.now) (tok_of token.now)) }
-{
-    let back = variable_at(bound, token)?;
-    Ok(First::Name { back })
-}
-
-fn first_of(language: Language, bound: &Scope<&[u8]>, token: &Lexeme<'_>) -> Result<First, TextKind>
-    requires { length (names_in bound.now) ≤ most_height_of_code + 1 }
-    ensures { result ≡ first_of language (names_in bound.now) (tok_of token.now) }
-{
-    if is_number(token) {
-        first_number(token)
-    } else if is_name(token) {
-        first_name(bound, token)
-    } else if is_the_mark(token, b"-") {
-        Ok(First::Minus)
-    } else if is_the_mark(token, b"(") {
-        Ok(First::Open)
-    } else {
-        first_word(language, token)
+    match token.text {
+        b"-" => Some(First::Minus),
+        b"(" => Some(First::Open),
+        _ => None,
     }
 }
 
-/// How an expression of a depth begins at a token, or the kind of the token's fault.
-pub fn first_at(
-    language: Language,
-    bound: &Scope<&[u8]>,
-    depth: u32,
-    token: &Lexeme<'_>,
-) -> Result<First, TextKind>
-    requires { length (names_in bound.now) ≤ most_height_of_code + 1 }
-    ensures { result ≡ first_at language depth (names_in bound.now) (tok_of token.now) }
+/// The form of expressions that a token begins, if it is the word or mark of one.
+pub fn form_at(language: Language, token: &Lexeme<'_>) -> Option<First>
+    ensures { or_none_begins result ≡ form_at language (tok_of token.now) }
 {
-    let first = first_of(language, bound, token);
-    match first {
-        Err(TextKind::Syntax) | Err(TextKind::Number) | Err(TextKind::Date) => first,
-        _ if depth > greatest_depth(language) => Err(TextKind::Deep),
-        _ => first,
+    match token.kind {
+        LexemeKind::Word => word_at(language, token),
+        LexemeKind::Mark => mark_at(token),
+        _ => None,
     }
 }
 

@@ -69,6 +69,21 @@ pub fn begins_with_other(rest: &[u8], wanted: &[u8]) -> bool
     }
 }
 
+/// Whether two texts are the same. Words are short, so they are compared in place.
+pub fn are_same(text: &[u8], other: &[u8]) -> bool
+    ensures { result ≡ bytes_eq text.now other.now }
+{
+    if text.len() != other.len() {
+        return false;
+    }
+    for i in 0..text.len() {
+        if text[i] != other[i] {
+            return false;
+        }
+    }
+    true
+}
+
 // Whether a text is this one. Most marks are one byte, so that is looked at first.
 fn is_text(text: &[u8], wanted: &[u8]) -> bool
     ensures { result ≡ bytes_eq text.now wanted.now }
@@ -83,7 +98,7 @@ fn is_text(text: &[u8], wanted: &[u8]) -> bool
 pub fn is_the_word(token: &Lexeme<'_>, word: &[u8]) -> bool
     ensures { result ≡ is_the_word word.now (tok_of token.now) }
 {
-    matches!(token.kind, LexemeKind::Word) && token.text == word
+    matches!(token.kind, LexemeKind::Word) && are_same(token.text, word)
 }
 
 /// Whether a token is this mark.
