@@ -1,4 +1,4 @@
-use Rattle.std.proofs.Common.{◌+◌, ◌∷◌, refl, sym, arith, rules}
+use Rattle.std.proofs.Common.{◌+◌, ◌∷◌, refl, arith, rules}
 use Rattle.contract_grammar.specs.declared.faults.TextKind.TheVariants.{Deep, Number}
 use Rattle.contract_parse.specs.Frames.{an_expression_here, names_at}
 use Rattle.contract_parse.specs.Heads.{OfNumber, first_at}
