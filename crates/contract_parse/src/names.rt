@@ -5,6 +5,7 @@ ghost use Rattle.indexmap.specs.IndexSet.{index_set_len};
 ghost use Rattle.term_model.specs.Limits.{most_height_of_code};
 ghost use Rattle.contract_grammar.specs.Names.{back_to, index_in, names_in};
 
+use crate::words::are_same;
 use indexmap::{IndexMap, IndexSet};
 use term_model::{Name, Scope};
 
@@ -29,11 +30,36 @@ pub fn back_to(bound: &Scope<&[u8]>, name: &[u8]) -> Option<u32>
     }
 }
 
+// So many names are looked through one by one, which costs less than a look by their hash.
+const FEW: usize = 8;
+
+// The place of a name among few.
+fn place_among(names: &[Name], text: &[u8]) -> Option<usize>
+    ensures value { result ≡ index_in names.now text.now }
+    ensures within { IfSome result (λ place. place < length names.now) }
+{
+    names.iter().position(|name| are_same(text, name.text()))
+}
+
+// The same as an index.
+fn index_among(names: &[Name], text: &[u8]) -> Option<u32>
+    requires { length names.now < 2 ^ 32 }
+    ensures { result ≡ index_in names.now text.now }
+{
+    match place_among(names, text) {
+        Some(place) => Some(place as u32),
+        None => None,
+    }
+}
+
 /// The index of a name in a set.
 pub fn index_in_set(names: &IndexSet<Name>, text: &[u8]) -> Option<u32>
     requires { index_set_len names.now < 2 ^ 32 }
     ensures { result ≡ index_in names.now.keys text.now }
 {
+    if names.len() <= FEW {
+        return index_among(names.as_slice(), text);
+    }
     match names.get_index_of(text) {
         Some(index) => Some(index as u32),
         None => None,
@@ -45,6 +71,9 @@ pub fn index_in_map<V>(names: &IndexMap<Name, V>, text: &[u8]) -> Option<u32>
     requires { index_map_len names.now < 2 ^ 32 }
     ensures { result ≡ index_in (keys names.now) text.now }
 {
+    if names.len() <= FEW {
+        return index_among(names.keys().as_slice(), text);
+    }
     match names.get_index_of(text) {
         Some(index) => Some(index as u32),
         None => None,
