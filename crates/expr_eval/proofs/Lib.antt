@@ -10,6 +10,7 @@ pub mod TriedFacts
 pub mod StopFacts
 pub mod CompareFacts
 pub mod WatchFacts
+pub mod MovedFacts
 pub mod PassFacts
 pub mod TruthFacts
 pub mod SearchFacts

@@ -32,7 +32,8 @@ use Rattle.expr_eval.specs.Bindings.{bindings}
 use Rattle.expr_eval.specs.Runs.{Answer, both_of, kind_observed, observation, of_place, on_both}
 use Rattle.expr_eval.specs.Comparing.{factors, truth_found}
 use Rattle.expr_eval.specs.Stops.{TruthOrMissing, first_stop, is_wanted, wanted_of}
-use Rattle.expr_eval.specs.Watching.{IsAgainst, IsWatched, Stands, is_met, met_by, met_on, turned}
+use Rattle.expr_eval.specs.Evaluations.{answer_in}
+use Rattle.expr_eval.specs.Watching.{IsAgainst, IsWatched, Stands, is_met, met_by, met_on, observed_later, turned}
 use Rattle.expr_eval.specs.Searches.{IsStop, IsFlagStop, met_in}
 use Rattle.expr_eval.proofs.StopFacts.{same_stop, stops_lacking, stops_met, stops_not}
 
@@ -76,13 +77,13 @@ against_day op l t factor m wanted k bound (Some v) f p q =
 is_against : (decls : Decls) (op : CmpOp) (l : ℕ) (t : ℤ) (bound : Typed) (wanted : Bool) (factor m : ℤ)
     → factor ≡ pos (10 ^ (max (scale_of_kind (kind_observed (declarations decls) l)) (scale_in bound) - scale_of_kind (kind_observed (declarations decls) l)))
     → m ≡ number_in bound *ℤ pos (10 ^ (max (scale_of_kind (kind_observed (declarations decls) l)) (scale_in bound) - scale_in bound))
-    → IsAgainst decls op l t bound wanted (against op l t factor m wanted)
+    → IsAgainst op (observed_later decls l t) bound wanted (against op l t factor m wanted)
 is_against decls op l t bound wanted factor m p q env f =
     against_day op l t factor m wanted (kind_observed (declarations decls) l) bound (held env (record { label = l; day = f +ℤ t })) (f +ℤ t) p q
 
 pub against_found : (decls : Decls) (op : CmpOp) (l : ℕ) (t u : ℤ) (bound : Typed) (wanted : Bool) (factor m : ℤ) (k : Kind) (i j : ℕ) (by : Factors) → u ≡ t
     → k ≡ kind_observed (declarations decls) l → i ≡ scale_of_kind k → j ≡ scale_of_kind bound.kind → by ≡ factors i j → factor ≡ by.left → m ≡ number_in bound *ℤ by.right
-    → IsAgainst decls op l t bound wanted (against op l u factor m wanted)
+    → IsAgainst op (observed_later decls l t) bound wanted (against op l u factor m wanted)
 against_found decls op l t u bound wanted factor m k i j by same kind_is i_is j_is by_is p q env f =
     let scale : i ≡ scale_of_kind (kind_observed (declarations decls) l) = i_is ∙ ap (λ (o : Kind). scale_of_kind o) kind_is in
     let all : by ≡ factors (scale_of_kind (kind_observed (declarations decls) l)) (scale_in bound) = by_is ∙ ap₂ factors scale j_is in
@@ -101,24 +102,21 @@ stop_too None P Q go h = h
 
 -- what stays the same may stand on either side
 
-turned_day : (op : CmpOp) (k : Kind) (v : Typed) (o : Option Value) (l : ℕ) (t : ℤ)
-    → truth_found (on_both (both_of (Ok v) (of_place k o l t)) (compared op)) ≡ truth_found (on_both (both_of (of_place k o l t) (Ok v)) (compared (turned op)))
-turned_day op k v None l t = refl
-turned_day op k v (Some x) l t = ap (λ (b : Bool). Ok b) (sym (turned_scales op (scale_of_kind k) (num x) (scale_in v) (number_in v)))
+pub left_watched : (decls : Decls) (op : CmpOp) (a b : Expression) (wanted : Bool) (names : Bindings) (v : Typed) (w : Watch)
+    → Stands b (bindings names) v → IsAgainst op (answer_in decls a names) v wanted w → IsWatched decls (Cmp op a b) wanted names w
+left_watched decls op a b wanted names v w stands is env f =
+    ap (λ (r : Answer). wanted_of wanted (truth_found (on_both (both_of (answer_in decls a names env f) r) (compared op)))) (stands decls env f) ∙ is env f
 
-pub right_watched : (decls : Decls) (op : CmpOp) (l : ℕ) (t : ℤ) (a : Expression) (wanted : Bool) (names : Bindings) (v : Typed) (w : Watch)
-    → Stands a (bindings names) v → IsAgainst decls (turned op) l t v wanted w → IsWatched decls (Cmp op a (Obs l t)) wanted names w
-right_watched decls op l t a wanted names v w stands is env f =
-    ap (λ (r : Answer). wanted_of wanted (truth_found (on_both (both_of r (observation (declarations decls) env l (f +ℤ t))) (compared op)))) (stands decls env f)
-    ∙ ap (wanted_of wanted) (turned_day op (kind_observed (declarations decls) l) v (held env (record { label = l; day = f +ℤ t })) l (f +ℤ t))
-    ∙ is env f
+turned_day : (op : CmpOp) (v : Typed) (r : Answer) → truth_found (on_both (both_of (Ok v) r) (compared op)) ≡ truth_found (on_both (both_of r (Ok v)) (compared (turned op)))
+turned_day op v (Err m) = refl
+turned_day op v (Ok x) = ap (λ (b : Bool). Ok b) (sym (turned_scales op (scale_in x) (number_in x) (scale_in v) (number_in v)))
 
-pub right_is : (decls : Decls) (op to : CmpOp) (l : ℕ) (t u : ℤ) (a b : Expression) (wanted : Bool) (names : Bindings) (v : Typed) (w : Watch) → b ≡ Obs l t → u ≡ t → to ≡ turned op
-    → Stands a (bindings names) v → IsAgainst decls to l u v wanted w → IsWatched decls (Cmp op a b) wanted names w
-right_is decls op to l t u a b wanted names v w is same turns stands against =
-    subst (λ (e : Expression). IsWatched decls (Cmp op a e) wanted names w) (sym is)
-    (right_watched decls op l t a wanted names v w stands
-    (subst (λ (x : ℤ). IsAgainst decls (turned op) l x v wanted w) same (subst (λ (o : CmpOp). IsAgainst decls o l u v wanted w) turns against)))
+pub right_watched : (decls : Decls) (op to : CmpOp) (a b : Expression) (wanted : Bool) (names : Bindings) (v : Typed) (w : Watch) → to ≡ turned op
+    → Stands a (bindings names) v → IsAgainst to (answer_in decls b names) v wanted w → IsWatched decls (Cmp op a b) wanted names w
+right_watched decls op to a b wanted names v w turns stands is env f =
+    ap (λ (r : Answer). wanted_of wanted (truth_found (on_both (both_of r (answer_in decls b names env f)) (compared op)))) (stands decls env f)
+    ∙ ap (wanted_of wanted) (turned_day op v (answer_in decls b names env f))
+    ∙ subst (λ (o : CmpOp). IsAgainst o (answer_in decls b names) v wanted w) turns is env f
 
 -- a flag
 

@@ -17,7 +17,7 @@ use Rattle.expr_eval.specs.declared.watches.Trial.TheVariants.{Flag, Number}
 use Rattle.expr_eval.specs.declared.watches.Watch.{Watch}
 use Rattle.expr_eval.specs.Operations.{compared}
 use Rattle.expr_eval.specs.Bindings.{bindings}
-use Rattle.expr_eval.specs.Runs.{both_of, observation, on_both, run_of}
+use Rattle.expr_eval.specs.Runs.{Answer, both_of, observation, on_both, run_of}
 use Rattle.expr_eval.specs.Comparing.{truth_found}
 use Rattle.expr_eval.specs.Stops.{TruthOrMissing, is_wanted, wanted_of}
 
@@ -50,12 +50,14 @@ met_on w env t = met_by w (held env (record { label = w.label; day = t })) t
 abbrev pub Stands : Expression → List Binding → Typed → Type 0
 Stands e g v = (decls : Decls) (env : Environment) (f : ℤ) → run_of (declarations decls) e g env f ≡ Ok v
 
--- a watch of what is observed, on the left of a comparison with a value
-abbrev pub IsAgainst : Decls → CmpOp → ℕ → ℤ → Typed → Bool → Watch → Type 0
-IsAgainst decls op l t bound wanted w =
-    (env : Environment) (f : ℤ)
-    → wanted_of wanted (truth_found (on_both (both_of (observation (declarations decls) env l (f +ℤ t)) (Ok bound)) (compared op)))
-    ≡ met_on w env (f +ℤ w.offset)
+-- what is observed under a label, some days after each day
+abbrev pub observed_later : Decls → ℕ → ℤ → Environment → ℤ → Answer
+observed_later decls l t env f = observation (declarations decls) env l (f +ℤ t)
+
+-- a watch of one side of a comparison, of which each day's answer is given, where the other one has a value
+abbrev pub IsAgainst : CmpOp → (Environment → ℤ → Answer) → Typed → Bool → Watch → Type 0
+IsAgainst op side bound wanted w =
+    (env : Environment) (f : ℤ) → wanted_of wanted (truth_found (on_both (both_of (side env f) (Ok bound)) (compared op))) ≡ met_on w env (f +ℤ w.offset)
 
 -- on each day a test has the truth value that is wanted exactly where the watch is met, some days later
 abbrev pub IsWatched : Decls → Expression → Bool → Bindings → Watch → Type 0

@@ -4,10 +4,11 @@
 ghost use Rattle.std.specs.Prelude.{◌≡◌, ◌*ℤ◌, IfSome};
 ghost use Rattle.term_model.specs.Terms.{expression};
 ghost use Rattle.expr_eval.specs.Bindings.{bindings};
-ghost use Rattle.expr_eval.specs.Evaluations.{comparison_over, logic_over};
+ghost use Rattle.expr_eval.specs.Evaluations.{answer_in, comparison_over, logic_over};
 ghost use Rattle.expr_eval.specs.Searches.{AreNear, IsFlagStop, IsStop, IsStopOfEither, alike};
 ghost use Rattle.expr_eval.specs.Stops.{wanted_of};
-ghost use Rattle.expr_eval.specs.Watching.{IsAgainst, IsWatched, Stands, turned};
+ghost use Rattle.expr_eval.specs.Operations.{combined};
+ghost use Rattle.expr_eval.specs.Watching.{IsAgainst, IsWatched, Stands, observed_later, turned};
 
 use crate::bindings::Bindings;
 use crate::comparisons::factors_of;
@@ -18,7 +19,7 @@ use crate::stops::{Stop, is_wanted};
 use crate::truths::truth_bound;
 use crate::watches::{Trial, Watch, first_met};
 use fixing_files::Fixings;
-use term_model::{CmpOp, Decls, Expr, LogicOp, Missing, day_read, days_later};
+use term_model::{CmpOp, Decls, Expr, LogicOp, Missing, NumOp, day_read, days_later};
 
 // The value of a side that is the same on each day: of a literal, or of a name whose value is
 // known.
@@ -70,7 +71,8 @@ fn watch_against(
     bound: Typed,
     wanted: bool,
 ) -> Option<Watch>
-    ensures { IfSome result (λ w. IsAgainst decls.now op label offset bound wanted w) }
+    ensures { IfSome result (λ w. IsAgainst op (observed_later decls.now label offset) bound
+        wanted w) }
 {
     let i = kind_observed(decls, label).scale();
     let j = bound.kind.scale();
@@ -88,49 +90,70 @@ fn watch_against(
     })
 }
 
-// A watch of a comparison whose left side is observed, and whose right one stays the same.
-fn watch_left(
+// A bound and a number that goes over to it, added or taken, at the greater of their scales; none
+// where 128 bits do not hold what this makes.
+fn bound_moved(op: NumOp, bound: Typed, by: Typed) -> Option<Typed>
+    ensures { IfSome result (λ v. v ≡ combined op bound by) }
+{
+    let i = bound.kind.scale();
+    let j = by.kind.scale();
+    if i > 27 || j > 27 {
+        return None;
+    }
+    let factors = factors_of(i, j);
+    let x = times(bound.value.number(), factors.left)?;
+    let y = times(by.value.number(), factors.right)?;
+    match op {
+        NumOp::Plus => Some(number(i.max(j), x.checked_add(y)?)),
+        NumOp::Minus => Some(number(i.max(j), x.checked_sub(y)?)),
+        _ => None,
+    }
+}
+
+// A watch of one side of a comparison, where the other one has a value. The side is observed, or it
+// is the sum or the difference of such a side and of what stays the same, which goes over.
+fn watch_side(
     decls: &Decls,
     op: CmpOp,
-    left: &Expr,
-    right: &Expr,
+    side: &Expr,
+    bound: Typed,
     wanted: bool,
     names: &Bindings,
 ) -> Option<Watch>
-    ensures { IfSome result (λ w. IsWatched decls.now (comparison_over op left.now right.now)
-        wanted names.now w) }
+    ensures { IfSome result (λ w. IsAgainst op
+        (answer_in decls.now (expression side.now) names.now) bound wanted w) }
 {
-    match left {
-        Expr::Obs { label, offset } => {
-            let bound = standing(right, names)?;
-            watch_against(decls, op, *label, *offset, bound, wanted)
+    match side {
+        Expr::Obs { label, offset } => watch_against(decls, op, *label, *offset, bound, wanted),
+        Expr::Num {
+            op: NumOp::Plus,
+            left,
+            right,
+        } => match standing(right, names) {
+            Some(more) => {
+                let bound = bound_moved(NumOp::Minus, bound, more)?;
+                watch_side(decls, op, left, bound, wanted, names)
+            }
+            None => {
+                let more = standing(left, names)?;
+                let bound = bound_moved(NumOp::Minus, bound, more)?;
+                watch_side(decls, op, right, bound, wanted, names)
+            }
+        },
+        Expr::Num {
+            op: NumOp::Minus,
+            left,
+            right,
+        } => {
+            let less = standing(right, names)?;
+            let bound = bound_moved(NumOp::Plus, bound, less)?;
+            watch_side(decls, op, left, bound, wanted, names)
         }
         _ => None,
     }
 }
 
-// A watch of a comparison whose right side is observed, and whose left one stays the same.
-fn watch_right(
-    decls: &Decls,
-    op: CmpOp,
-    left: &Expr,
-    right: &Expr,
-    wanted: bool,
-    names: &Bindings,
-) -> Option<Watch>
-    ensures { IfSome result (λ w. IsWatched decls.now (comparison_over op left.now right.now)
-        wanted names.now w) }
-{
-    match right {
-        Expr::Obs { label, offset } => {
-            let bound = standing(left, names)?;
-            watch_against(decls, turned(op), *label, *offset, bound, wanted)
-        }
-        _ => None,
-    }
-}
-
-// A watch of a comparison of which one side is observed, and the other stays the same.
+// A watch of a comparison of which one side stays the same.
 fn watch_of(
     decls: &Decls,
     op: CmpOp,
@@ -142,13 +165,16 @@ fn watch_of(
     ensures { IfSome result (λ w. IsWatched decls.now (comparison_over op left.now right.now)
         wanted names.now w) }
 {
-    match watch_left(decls, op, left, right, wanted, names) {
-        Some(watch) => Some(watch),
-        None => watch_right(decls, op, left, right, wanted, names),
+    match standing(right, names) {
+        Some(bound) => watch_side(decls, op, left, bound, wanted, names),
+        None => {
+            let bound = standing(left, names)?;
+            watch_side(decls, turned(op), right, bound, wanted, names)
+        }
     }
 }
 
-// Where a comparison stops of which one side is observed, and the other stays the same.
+// Where a comparison stops of which one side stays the same.
 fn search_compared(
     decls: &Decls,
     op: CmpOp,
@@ -209,8 +235,9 @@ fn search_alike(found: Result<bool, Missing>, wanted: bool, days: u32) -> Stop
 }
 
 /// Where a test stops that is tried on one day after another until it has the truth value that is
-/// wanted; none where it is no joint of flags, of names, and of comparisons between an observable
-/// and what stays the same. It reads further than it stops, by some days, and takes no memory.
+/// wanted; none where it is no joint of flags, of names, and of comparisons between an observable,
+/// or its sum or difference with what stays the same, and what stays the same. It reads further
+/// than it stops, by some days, and takes no memory.
 #[cycle(searches)]
 pub fn search(
     decls: &Decls,
