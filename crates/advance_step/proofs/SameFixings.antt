@@ -10,7 +10,7 @@ use Rattle.term_model.specs.Environments.{Environment, Extends, Place, least, la
 use Rattle.term_model.specs.Flows.{count_of}
 use Rattle.term_model.specs.Kinds.{kind_of}
 use Rattle.term_model.specs.Reads.{is_fixed, reads_of, up_to_first}
-use Rattle.term_model.specs.Redexes.{moved, names_within, reads_are_fixed}
+use Rattle.term_model.specs.Redexes.{moved, names_within}
 use Rattle.term_model.specs.Values.{value_of}
 use Rattle.term_model.proofs.ReadFacts.{SameWhere, reads_alike}
 use Rattle.term_model.proofs.ReadLawFacts.{no_names}

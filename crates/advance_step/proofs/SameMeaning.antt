@@ -9,7 +9,7 @@ use Rattle.term_model.specs.DayCounts.{Days}
 use Rattle.term_model.specs.DayCounts.{Num as Count}
 use Rattle.term_model.specs.Terms.{Expression, Lit, Yes, Var, Obs, Neg, Num, Cmp, Not, Logic, Cond, Widen, Round, Div, Acc}
 use Rattle.term_model.specs.Terms.{Contract, Zero, Pay, Both, Scale, After, Let, Within}
-use Rattle.term_model.specs.Environments.{Environment, Place}
+use Rattle.term_model.specs.Environments.{Environment}
 use Rattle.term_model.specs.Flows.{count_of}
 use Rattle.term_model.specs.Kinds.{kind_of, scale_of, scale_or_zero}
 use Rattle.term_model.specs.Reads.{is_fixed}
@@ -21,7 +21,7 @@ use Rattle.rewriting.specs.Measures.{size_in}
 use Rattle.rewriting.specs.Replacing.{branch_at, literal_of}
 use Rattle.simplify.specs.Turning.{choice, is_chosen, resolved, rule, turned}
 use Rattle.simplify.specs.TurningContracts.{rule_in, turned_in}
-use Rattle.specialise.specs.Specialising.{is_known, literal_or, specialised, specialised_in, told, told_or}
+use Rattle.specialise.specs.Specialising.{literal_or, specialised, specialised_in, told, told_or}
 use Rattle.advance_step.specs.Reducing.{reduced, reduced_once, reduced_times, residual, rest_after}
 use Rattle.advance_step.specs.WhatIsLeft.{both_left, delayed, left_of, let_left, scale_left}
 

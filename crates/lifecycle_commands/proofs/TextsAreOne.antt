@@ -1,6 +1,6 @@
 -- A portfolio over fixings and to a day has one text of `advance`, and one of `novate`.
 use Rattle.std.proofs.Common.{◌≡◌, ◌∙◌, ℕ, List, [], ◌∷◌, ◌++◌, ap₂, refl, subst, sym}
-use Rattle.std.specs.Prelude.{None, Option, Some}
+use Rattle.std.specs.Prelude.{None, Option}
 use Rattle.term_model.specs.declared.name.Name.{Name}
 use Rattle.term_model.specs.Books.{Book}
 use Rattle.term_model.specs.Declarations.{Declarations}

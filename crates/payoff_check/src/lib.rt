@@ -8,7 +8,7 @@
 //!
 //! Promised: `check_code` answers the facts of accepted code, or the first rule that fails and the
 //! first node at which it does (`IsCheckedCode`).
-//! Only tested: that it answers where there is memory (rows of `library_rows`).
+//! Only tested: that it answers if there is enough memory (rows of `run_rows`).
 #![tactic(auto)]
 
 mod bound_rule;

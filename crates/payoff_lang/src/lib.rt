@@ -8,7 +8,7 @@
 //!
 //! Promised: `parse_code` answers the code file of a text or the first fault (`CodeAnswers`);
 //! `print_code` appends exactly its canonical text (`AppendsCode`), or nothing.
-//! Only tested: that they succeed where there is memory (rows of `library_rows`).
+//! Only tested: that they succeed if there is enough memory (rows of `run_rows`).
 #![tactic(auto)]
 
 mod date_reading;

@@ -11,7 +11,7 @@
 //! tables are added one by one, and which keeps none of them. `append` appends the pieces of a
 //! line; `name_piece`, `asset_piece`, `date_of` and `amount_in_asset` say what stands in a line for
 //! a name, a day and an amount.
-//! Only tested: that they succeed where there is memory (rows of `library_rows`).
+//! Only tested: that they succeed if there is enough memory (rows of `run_rows`).
 #![tactic(auto)]
 
 mod check_lines;
