@@ -30,6 +30,7 @@ pub mod OperatorFacts
 pub mod QuotientFacts
 pub mod RangeKinds
 pub mod Accumulation
+pub mod SteadyFacts
 pub mod BehindFacts
 pub mod KindsFound
 pub mod RangeFacts

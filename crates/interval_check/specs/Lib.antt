@@ -11,6 +11,7 @@ pub mod Intervals
 pub mod Ranges
 pub mod RangeScopes
 pub mod RangeTrials
+pub mod Steady
 pub mod TotalTrials
 pub mod ScopedTrials
 pub mod Totals

@@ -10,6 +10,7 @@ use Rattle.term_model.specs.Declarations.{declarations}
 use Rattle.term_model.specs.Terms.{Expression, Contract, Within, expression, contract}
 use Rattle.term_model.specs.DayCounts.{Num}
 use Rattle.term_model.specs.Bounds.{Range as Bounds, range_kinds}
+use Rattle.term_core.specs.Trying.{moved}
 use Rattle.interval_check.specs.declared.ranges.Range.{Range}
 use Rattle.interval_check.specs.RangeScopes.{ranges_in}
 use Rattle.interval_check.specs.RangeTrials.{Answer, day_tried, range_tried, AreScaled}
@@ -20,6 +21,11 @@ range_within decls e scope = range_tried (declarations decls) e (ranges_in scope
 
 abbrev pub range_among : Decls → Expr → Scope Range → Answer
 range_among decls e scope = range_within decls (expression e) scope
+
+-- the body of an accumulator, with a range for its name, counted from the accumulator's own node
+abbrev pub body_among : Decls → Expr → Scope Range → Bounds → Answer
+body_among decls body scope r =
+    moved 1 (range_tried (declarations decls) (expression body) (r ∷ ranges_in scope))
 
 -- a day of an accumulator with this body
 abbrev pub day_among : Decls → Expr → Scope Range → Bounds → Answer

@@ -19,6 +19,7 @@ mod quotients;
 mod range_rule;
 mod range_scopes;
 mod ranges;
+mod steady;
 mod totals;
 
 pub use bound_rule::bounds;

@@ -1,8 +1,9 @@
 //! The ranges of expressions, by the rule on bounds. The trial of an expression answers its range,
 //! or the number of the node at fault, counted from the expression's own first node; nodes before
 //! it are counted only on the way up from a fault. So no part is visited more than twice, but for
-//! the body of an accumulator, which is tried anew for each day until a day changes nothing. A
-//! function pays at entry for the locals of all its arms, so each form has one of its own.
+//! the body of an accumulator, which is tried anew for each day until a day changes nothing, unless
+//! it adds the same on each day. A function pays at entry for the locals of all its arms, so each
+//! form has one of its own.
 
 ghost use Rattle.std.specs.Prelude.{◌≡◌, ◌<◌, ◌≤◌, ◌+◌, ◌^◌, IfErr, IfOk, slice_get};
 ghost use Rattle.term_model.specs.Terms.{expression, Neg, Num, Cmp, Not, Logic, Cond};
@@ -17,10 +18,11 @@ ghost use Rattle.interval_check.specs.Intervals.{interval, fitting};
 ghost use Rattle.interval_check.specs.Ranges.{range, range_found, operands_found};
 ghost use Rattle.interval_check.specs.Ranges.{AreFit, IsFit, IsFitOfKind};
 ghost use Rattle.interval_check.specs.RangeScopes.{ranges_in};
-ghost use Rattle.interval_check.specs.ScopedTrials.{day_among, range_among, range_within};
+ghost use Rattle.interval_check.specs.ScopedTrials.{body_among, day_among, range_among, range_within};
 ghost use Rattle.interval_check.specs.ScopedTrials.{IsBodyScaled, IsScaledAmong, IsScaledWithin};
 ghost use Rattle.interval_check.specs.RangeTrials.{ranged, named, range_or_truth, operands};
 ghost use Rattle.interval_check.specs.RangeTrials.{days_tried};
+ghost use Rattle.interval_check.specs.Steady.{TellsDays};
 
 use crate::intervals::Interval;
 use crate::quotients::divided;
@@ -28,6 +30,7 @@ use crate::range_scopes::{range_at, range_observed};
 use crate::ranges::{
     Operands, Range, TRUTH, checked, combined, compared, either, is_same, negated, rounded, widened,
 };
+use crate::steady::{adds_alike, after_days};
 use decimal::Mode;
 use term_core::{behind, behind_node, nodes_in};
 use term_model::{CmpOp, Decls, Expr, Kind, LogicOp, NumOp, Scope};
@@ -384,6 +387,9 @@ fn accumulated(
     ensures below { FaultIsWithin (nodes (expression body.now) + 1) result }
     ensures fit { IfOk result (λ r. IsFit (range r)) }
 {
+    if let Some(range) = added_up(decls, body, days, start, scope)? {
+        return Ok(range);
+    }
     let mut so_far = start;
     for _day in 0..days {
         let next = range_of_day(decls, body, so_far, scope)?;
@@ -393,6 +399,52 @@ fn accumulated(
         so_far = next;
     }
     Ok(so_far)
+}
+
+// Of an accumulator that adds the same range on each day, by that of its body on the first one;
+// none where it may not, or where a day could be at fault.
+#[cycle(ranging)]
+fn added_up(
+    decls: &Decls,
+    body: &Expr,
+    days: u32,
+    start: Range,
+    scope: &Scope<Range>,
+) -> Result<Option<Range>, u32>
+    requires nodes { nodes (expression body.now) + 1 < 2 ^ 32 }
+    requires scaled { IsBodyScaled decls.now body.now start.kind scope.now }
+    requires start { IsFit (range start) }
+    ensures range { TellsDays result
+        (days_tried days (day_among decls.now body.now scope.now) (range start)) }
+    ensures below { FaultIsWithin (nodes (expression body.now) + 1) result }
+{
+    if days < 2 || !adds_alike(body) {
+        return Ok(None);
+    }
+    let next = range_of_body(decls, body, start, scope)?;
+    Ok(after_days(start, next, days))
+}
+
+// Of an accumulator's body, with a range for its name.
+#[inline(always)]
+#[cycle(ranging)]
+fn range_of_body(
+    decls: &Decls,
+    body: &Expr,
+    so_far: Range,
+    scope: &Scope<Range>,
+) -> Result<Range, u32>
+    requires nodes { nodes (expression body.now) + 1 < 2 ^ 32 }
+    requires scaled { IsBodyScaled decls.now body.now so_far.kind scope.now }
+    ensures range { range_found result ≡ body_among decls.now body.now scope.now (range so_far) }
+    ensures below { FaultIsWithin (nodes (expression body.now) + 1) result }
+    ensures fit { IfOk result (λ r. IsFit (range r)) }
+{
+    let inner = Scope::Bound {
+        held: so_far,
+        outer: &*scope,
+    };
+    behind_node(range_of_part(decls, body, &inner))
 }
 
 // Of an accumulator after one more day.
@@ -410,10 +462,6 @@ fn range_of_day(
     ensures below { FaultIsWithin (nodes (expression body.now) + 1) result }
     ensures fit { IfOk result (IsFitOfKind so_far.kind) }
 {
-    let inner = Scope::Bound {
-        held: so_far,
-        outer: &*scope,
-    };
-    let next = behind_node(range_of_part(decls, body, &inner))?;
+    let next = range_of_body(decls, body, so_far, scope)?;
     widened(so_far.kind, next)
 }

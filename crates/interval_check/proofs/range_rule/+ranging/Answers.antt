@@ -8,12 +8,13 @@ use Rattle.interval_check.specs.RangeScopes.{ranges_in}
 use Rattle.interval_check.specs.RangeTrials.{day_tried, range_tried}
 use Rattle.interval_check.proofs.Accumulation.{days_stop, days_stay}
 use Rattle.interval_check.proofs.BehindFacts.{range_behind}
+use Rattle.interval_check.proofs.SteadyFacts.{first_stops, told_days}
 use Rattle.interval_check.proofs.RangeKinds.{operands_scaled, body_scaled}
 use Rattle.interval_check.proofs.range_rule.+ranging.Goals as goal
 
 pub accumulated-returns-in_err-next-clause-range : goal.accumulated-returns-in_err-next-clause-range
 accumulated-returns-in_err-next-clause-range t c =
-    let p = err_from_is_err_and c.from_residual.result c.from_residual.ensures.1 in
+    let p = err_from_is_err_and c.from_residual-in_err-next.result c.from_residual-in_err-next.ensures.1 in
     let step = day_tried (λ g. range_tried (declarations c.args.decls.now) (expression c.args.body.now) g) (ranges_in c.args.scope.now) in
     rw (p.1, p.2) (sym (days_stop c.args.days c.loop-day._day step (range c.args.start) (range c.loop-day.so_far) _ (omega arith) c.loop-day.invariant.days (sym c.in_err-next.ensures.range)))
 
@@ -23,6 +24,15 @@ accumulated-returns-then-is_same-clause-range t c =
     let same : step (range c.loop-day.so_far) ≡ Ok (range c.loop-day.so_far) =
     sym c.in_ok-next.ensures.range ∙ ap (λ (x : Found). Ok (range x)) (c.if-is_same.ensures.0 refl) in
     sym (days_stay c.args.days c.loop-day._day step (range c.args.start) (range c.loop-day.so_far) (omega arith) c.loop-day.invariant.days same)
+
+pub added_up-returns-in_err-next-clause-range : goal.added_up-returns-in_err-next-clause-range
+added_up-returns-in_err-next-clause-range t c =
+    let p = err_from_is_err_and c.from_residual.result c.from_residual.ensures.1 in
+    rw (p.1, p.2) (sym (first_stops (declarations c.args.decls.now) (expression c.args.body.now) (ranges_in c.args.scope.now) (range c.args.start) c.args.days _ (omega arith) (sym c.in_err-next.ensures.range)))
+
+pub added_up-returns-clause-range : goal.added_up-returns-clause-range
+added_up-returns-clause-range t c =
+    told_days (declarations c.args.decls.now) (expression c.args.body.now) (ranges_in c.args.scope.now) (range c.args.start) (range c.in_ok-next.next) c.args.days c.after_days.result (search rules) c.requires.start (sym c.in_ok-next.ensures.range) c.after_days.ensures
 
 pub range_of_num-combined-requires-clause-scale : goal.range_of_num-combined-requires-clause-scale
 range_of_num-combined-requires-clause-scale t c =

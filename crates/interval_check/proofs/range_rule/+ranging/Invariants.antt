@@ -8,53 +8,59 @@ use Rattle.interval_check.specs.RangeTrials.{days_tried, day_tried, range_tried}
 use Rattle.interval_check.proofs.range_rule.+ranging.Given as goal
 
 abbrev pub decreases-range_of : goal.decreases-range_of
-decreases-range_of l = 5 * size-Expr l.e.now
+decreases-range_of l = 6 * size-Expr l.e.now
 
 abbrev pub decreases-range_of_part : goal.decreases-range_of_part
-decreases-range_of_part l = 5 * size-Expr l.e.now + 1
+decreases-range_of_part l = 6 * size-Expr l.e.now + 1
 
 abbrev pub decreases-range_of_negative : goal.decreases-range_of_negative
-decreases-range_of_negative l = 5 * size-Expr l.of.now + 1
+decreases-range_of_negative l = 6 * size-Expr l.of.now + 1
 
 abbrev pub decreases-range_of_not : goal.decreases-range_of_not
-decreases-range_of_not l = 5 * size-Expr l.of.now + 1
+decreases-range_of_not l = 6 * size-Expr l.of.now + 1
 
 abbrev pub decreases-range_of_widened : goal.decreases-range_of_widened
-decreases-range_of_widened l = 5 * size-Expr l.of.now + 1
+decreases-range_of_widened l = 6 * size-Expr l.of.now + 1
 
 abbrev pub decreases-range_of_rounded : goal.decreases-range_of_rounded
-decreases-range_of_rounded l = 5 * size-Expr l.of.now + 1
+decreases-range_of_rounded l = 6 * size-Expr l.of.now + 1
 
 abbrev pub decreases-range_of_num : goal.decreases-range_of_num
-decreases-range_of_num l = 5 * max (size-Expr l.left.now) (size-Expr l.right.now) + 3
+decreases-range_of_num l = 6 * max (size-Expr l.left.now) (size-Expr l.right.now) + 3
 
 abbrev pub decreases-range_of_cmp : goal.decreases-range_of_cmp
-decreases-range_of_cmp l = 5 * max (size-Expr l.left.now) (size-Expr l.right.now) + 3
+decreases-range_of_cmp l = 6 * max (size-Expr l.left.now) (size-Expr l.right.now) + 3
 
 abbrev pub decreases-range_of_logic : goal.decreases-range_of_logic
-decreases-range_of_logic l = 5 * max (size-Expr l.left.now) (size-Expr l.right.now) + 3
+decreases-range_of_logic l = 6 * max (size-Expr l.left.now) (size-Expr l.right.now) + 3
 
 abbrev pub decreases-range_of_quotient : goal.decreases-range_of_quotient
-decreases-range_of_quotient l = 5 * max (size-Expr l.top.now) (size-Expr l.below.now) + 3
+decreases-range_of_quotient l = 6 * max (size-Expr l.top.now) (size-Expr l.below.now) + 3
 
 abbrev pub decreases-range_of_choice : goal.decreases-range_of_choice
 decreases-range_of_choice l =
-    5 * max (size-Expr l.test.now) (max (size-Expr l.yes.now) (size-Expr l.no.now)) + 4
+    6 * max (size-Expr l.test.now) (max (size-Expr l.yes.now) (size-Expr l.no.now)) + 4
 
 abbrev pub decreases-ranges_of : goal.decreases-ranges_of
-decreases-ranges_of l = 5 * max (size-Expr l.left.now) (size-Expr l.right.now) + 2
+decreases-ranges_of l = 6 * max (size-Expr l.left.now) (size-Expr l.right.now) + 2
 
 abbrev pub decreases-ranges_after : goal.decreases-ranges_after
-decreases-ranges_after l = 5 * max (size-Expr l.left.now) (size-Expr l.right.now) + 3
+decreases-ranges_after l = 6 * max (size-Expr l.left.now) (size-Expr l.right.now) + 3
+
+abbrev pub decreases-range_of_body : goal.decreases-range_of_body
+decreases-range_of_body l = 6 * size-Expr l.body.now + 2
 
 abbrev pub decreases-range_of_day : goal.decreases-range_of_day
-decreases-range_of_day l = 5 * size-Expr l.body.now + 2
+decreases-range_of_day l = 6 * size-Expr l.body.now + 3
+
+abbrev pub decreases-added_up : goal.decreases-added_up
+decreases-added_up l = 6 * size-Expr l.body.now + 3
 
 abbrev pub decreases-range_of_acc : goal.decreases-range_of_acc
-decreases-range_of_acc l = 5 * max (size-Expr l.body.now) (size-Expr l.first.now) + 4
+decreases-range_of_acc l = 6 * max (size-Expr l.body.now) (size-Expr l.first.now) + 5
 
 abbrev pub decreases-accumulated : goal.decreases-accumulated
-decreases-accumulated l = 5 * size-Expr l.body.now + 3
+decreases-accumulated l = 6 * size-Expr l.body.now + 4
 
 abbrev pub invariant-accumulated-loop-day : goal.invariant-accumulated-loop-day
 invariant-accumulated-loop-day l = record {
