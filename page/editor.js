@@ -47,7 +47,7 @@ function charAt(line, column) {
 
 export class Editor {
   // `role` is the text's kind, `place` where the editor goes, `changed` what is called on a change.
-  constructor(role, place, { name, isTable, changed, offer }) {
+  constructor(role, place, { name, isTable, empty, changed, offer }) {
     this.role = role;
     this.name = name;
     this.held = null;
@@ -64,7 +64,7 @@ export class Editor {
       dragDrop: false,
       lineWrapping: false,
       gutters: ["CodeMirror-linenumbers", "faults"],
-      placeholder: isTable ? "Type, paste from a spreadsheet, or open a file." : "",
+      placeholder: empty ?? "Type, paste from a spreadsheet, or open a file.",
       viewportMargin: 20,
       extraKeys: {
         // The key goes on to the next part of the page, for those who use no mouse.

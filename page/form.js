@@ -3,10 +3,23 @@
 
 import { declared } from "./offers.js";
 
+// The kinds of texts: the name of each, its file, and what stands in its editor while it is empty.
 export const ROLES = {
-  portfolio: { title: "Portfolio", file: "portfolio.txt" },
-  plans: { title: "Schedule", file: "plans.txt" },
-  code: { title: "Payoff code", file: "code.txt" },
+  portfolio: {
+    title: "Portfolio",
+    file: "portfolio.txt",
+    empty: "Type a portfolio, open a file, drop one here, or begin with an example.",
+  },
+  plans: {
+    title: "Schedule",
+    file: "plans.txt",
+    empty: "Payments at regular days, which the question expand writes out. Begins: schedules 1;",
+  },
+  code: {
+    title: "Payoff code",
+    file: "code.txt",
+    empty: "Ask payoff of a portfolio, and go on with its answer: that is payoff code.",
+  },
   fixings: { title: "Fixings", file: "fixings.csv", header: "label,day,value\n", isTable: true },
   curve: { title: "Curve", file: "curve.csv", header: "offset,factor\n", isTable: true },
   scenarios: {
@@ -132,8 +145,11 @@ export class Form {
     const isGiven = value && this.given[option.name] === value && !all.includes(value);
     if (isGiven) field.add(new Option(`${value} (not in the text)`, value));
     if (!field.options.length) field.add(new Option("the text declares none", ""));
-    // A name that the text does not declare is no longer chosen.
-    field.value = isGiven || all.includes(value) ? value : field.options[0].value;
+    // A name that the text does not declare is no longer chosen. The second of two parties is not
+    // the first.
+    const isOther = option.takes === "party" && ["to", "new"].includes(option.name);
+    const first = isOther ? (field.options[1] ?? field.options[0]) : field.options[0];
+    field.value = isGiven || all.includes(value) ? value : first.value;
     return field;
   }
 

@@ -62,6 +62,15 @@ export function keep(kept, key = KEY) {
   }
 }
 
+// Keeps nothing of what is typed, until something is.
+export function keepNone() {
+  try {
+    localStorage.removeItem(KEY);
+  } catch {
+    // A browser that keeps nothing has nothing to forget.
+  }
+}
+
 // What was kept; null if that is nothing, or no case.
 export function kept(key = KEY) {
   try {

@@ -41,6 +41,7 @@ function changed(editor) {
   namesSoon = setTimeout(() => {
     state.form.refresh();
     showWords();
+    shown.tellOld();
   }, NAMES_AFTER);
   keepingSoon = setTimeout(keepAll, KEEP_AFTER);
 }
@@ -60,6 +61,7 @@ function keepAll() {
   const now = current();
   if (ofLink && JSON.stringify(now) === ofLink) return;
   ofLink = "";
+  if (Object.keys(ROLES).every(isEmpty)) return keeping.keepNone();
   const fault = keeping.keep(now);
   if (fault) say(fault, true);
   else if (isHeld) say("The file that is held is not kept in the browser when the page is closed.");
@@ -88,13 +90,17 @@ function choose(name, values = {}) {
 }
 
 function showWords() {
-  const { words, lacks } = state.form.words(isEmpty);
-  by("words").textContent = words ? `tilugba ${words.join(" ")}` : lacks;
+  const { words } = state.form.words(isEmpty);
+  by("words").textContent = words ? `tilugba ${words.join(" ")}` : "";
+  by("line").hidden = !words;
 }
 
 const filesOf = (roles) => roles.map((it) => [ROLES[it].file, state.editors[it].contents]);
 
-// Runs what the form says.
+// Whether the page has begun: what is asked from then on a user has asked.
+let hasBegun = false;
+
+// Runs what the form says. What a user asks is shown where the user looks.
 async function run() {
   if (state.isRunning) return;
   const { words, lacks, field } = state.form.words(isEmpty);
@@ -107,9 +113,11 @@ async function run() {
   const roles = state.form.rolesOf().filter((it) => words.includes(ROLES[it].file));
   shown.setRunning(true);
   by("status").textContent = "Running.";
+  const asked = state.form.rolesOf().map((it) => [it, state.editors[it].contents]);
   const said = await state.runner.run(words, filesOf(roles));
   shown.setRunning(false);
-  shown.show({ command: words[0], words, roles, ...said });
+  shown.show({ command: words[0], words, roles, asked, ...said });
+  if (hasBegun && said.status === 0) by("answer").scrollIntoView({ block: "nearest" });
 }
 
 async function copyLink() {
@@ -157,14 +165,9 @@ async function begin() {
     if (linked) {
       takeCase(linked);
       ofLink = JSON.stringify(current());
-      if (before) {
-        keeping.setAside(before);
-        by("message").replaceChildren(
-          "This is the case of the link. ",
-          button("Bring back what I had", () => bringBack()),
-        );
-      } else say("This is the case of the link.");
-      return run();
+      if (before) keeping.setAside(before);
+      await run();
+      return tellOfLink(before);
     }
     if (before) {
       takeCase(before);
@@ -183,6 +186,13 @@ async function begin() {
   if (isFault) say(told, true);
 }
 
+// Says that the case is a link's, unless a run of it says what is missing.
+function tellOfLink(before) {
+  if (by("message").textContent) return;
+  say("This is the case of the link. ");
+  if (before) by("message").append(button("Bring back what I had", bringBack));
+}
+
 function bringBack() {
   const before = keeping.aside();
   if (before) takeCase(before);
@@ -195,7 +205,10 @@ function forget() {
   for (const [role, it] of Object.entries(state.editors)) it.take(ROLES[role].header ?? "");
   keeping.forget();
   history.replaceState(null, "", location.pathname);
+  state.answer = null;
+  by("asked").textContent = "";
   shown.showNone("Nothing was asked yet.");
+  shown.tellOld();
   by("status").classList.remove("fault");
   tell(null);
   state.form.values = {};
@@ -295,6 +308,7 @@ async function start() {
   for (const it of ["run", "life"]) by(it).disabled = false;
   say("");
   await begin();
+  hasBegun = true;
   document.documentElement.dataset.ready = "true";
 }
 

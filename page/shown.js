@@ -29,6 +29,8 @@ export function setRunning(now) {
 
 export function show(said) {
   state.answer = said;
+  by("asked").textContent = said.command;
+  tellOld();
   picture.clear();
   if (said.stopped) return showNone("Stopped. What you typed is still here.");
   if (said.trap) return showNone(`No answer: ${trapText(said.trap)}`);
@@ -57,6 +59,12 @@ function trapText(trap) {
   if (/stack|recursion/i.test(trap)) return `the text is too deep for this browser (${trap})`;
   if (/memory|allocation/i.test(trap)) return `out of memory in this browser (${trap})`;
   return trap;
+}
+
+// Says of an answer that a text of its question has changed since.
+export function tellOld() {
+  const isOther = ([role, contents]) => state.editors[role].contents !== contents;
+  by("old").hidden = !state.answer?.asked?.some(isOther);
 }
 
 export function showNone(said) {
@@ -151,6 +159,8 @@ export async function life() {
   const { title, labels } = ran.picture;
   by("status").textContent = `${title}, by advance and check of ${labels.length} days.`;
   by("as-table").disabled = by("as-picture").disabled = false;
-  by("use-answer").hidden = true;
+  by("use-answer").hidden = by("save-answer").disabled = true;
+  by("asked").textContent = "";
+  tellOld();
   view("picture");
 }

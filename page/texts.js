@@ -24,7 +24,7 @@ export function showRole(role) {
 // user asks what may stand at the cursor.
 export function makeEditors(whenChanged, offer) {
   changed = whenChanged;
-  for (const [role, { title, isTable }] of Object.entries(ROLES)) {
+  for (const [role, { title, isTable, empty }] of Object.entries(ROLES)) {
     const side = sideOf(role);
     by(`${side}-tabs`).append(button(title, () => showRole(role), { id: `tab-${role}` }));
     const place = Object.assign(document.createElement("div"), { id: `editor-${role}` });
@@ -32,6 +32,7 @@ export function makeEditors(whenChanged, offer) {
     state.editors[role] = new Editor(role, place, {
       name: `${title}, editor`,
       isTable,
+      empty,
       changed,
       offer: isTable ? null : offer,
     });

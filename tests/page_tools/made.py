@@ -124,6 +124,15 @@ def try_notices(bench: Bench) -> None:
         bench.judge(name in text, f"NOTICES.txt does not name {name}")
 
 
+def try_sentences(bench: Bench) -> None:
+    """The sentences of faults are plain texts, for a page has no use for links between pages."""
+    for kind, said in page.faults(TOP).items():
+        of_kind = [text for texts in said.values() for text in texts]
+        bench.judge(bool(of_kind), f"there is no sentence of {kind}")
+        for text in of_kind:
+            bench.judge("](" not in text and bool(text), f"a sentence of {kind}: {text}")
+
+
 def try_recipes(bench: Bench) -> None:
     """Nearly all runs that the pages show are recipes."""
     for name in recipes.PAGES:
@@ -137,5 +146,6 @@ def try_made(bench: Bench) -> None:
     try_retarget(bench)
     try_hold(bench)
     try_recipes(bench)
+    try_sentences(bench)
     try_notices(bench)
     try_bytes(bench)

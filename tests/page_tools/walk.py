@@ -79,6 +79,8 @@ class Walk:
                 self.files,
                 self.links,
                 self.keeping,
+                self.links_and_own_text,
+                self.old_answer,
                 self.two_tabs,
                 self.keyboard,
                 self.names,
@@ -94,6 +96,7 @@ class Walk:
         self.step(self.without_memory)
         self.step(self.without_module)
         self.step(self.old_browser)
+        self.step(self.from_disk)
 
     def step(self, of: object) -> None:
         """A step that does not come to its end has failed."""
@@ -433,6 +436,49 @@ class Walk:
         left = self.do("return JSON.stringify(localStorage) + ed('portfolio').getValue()")
         self.judge("kept" not in str(left), f"after forgetting there is {left}")
 
+    def links_and_own_text(self) -> None:
+        """What was typed stays when links are followed, one after another, and is brought back."""
+        self.open()
+        self.do("by('forget').click()")
+        fragments = []
+        for name in ("first", "second"):
+            self.put("portfolio", HEAD + CONTRACT.replace("contract c", f"contract {name}"))
+            self.choose("flows")
+            self.do("by('link').click()")
+            holds = "return location.hash !== '' && location.hash !== arguments[0]"
+            self.browser.wait(lambda: self.do(holds, fragments[-1] if fragments else ""), "no link")
+            fragments.append(str(self.do("return location.hash")))
+        self.open()
+        self.put("portfolio", f"{HEAD}contract own = zero;\n")
+        self.put("fixings", "label,day,value\nFX,5,1.00\n")
+        kept = "return (localStorage.getItem('tilugba.case') ?? '').includes('own')"
+        self.browser.wait(lambda: self.do(kept), "nothing is kept")
+        for name, fragment in zip(("first", "second"), fragments):
+            self.open(fragment)
+            _, text = self.answer()
+            self.judge(text == f"{name},0,A,B,EUR,1.00\n", f"the link of {name} gives {text}")
+            time.sleep(1)
+        self.do("location.hash = arguments[0]", fragments[0])
+        first = "return by('text').textContent.startsWith('first')"
+        self.comes(lambda: self.do(first), "a link that is followed within the page")
+        self.do("document.querySelector('#message button').click()")
+        text = self.do("return ed('portfolio').getValue() + ed('fixings').getValue()")
+        holds = "contract own" in str(text) and "FX,5,1.00" in str(text)
+        self.judge(holds, f"after two links and Bring back there is {text}")
+
+    def old_answer(self) -> None:
+        """An answer whose question has changed since is said to be an old one."""
+        self.do("by('forget').click()")
+        self.put("portfolio", HEAD + CONTRACT)
+        self.choose("flows")
+        self.run()
+        is_hidden = "return by('old').hidden"
+        self.judge(self.do(is_hidden), "an answer is said to be old at once")
+        self.put("portfolio", HEAD + CONTRACT.replace("A, B", "B, A"))
+        self.comes(lambda: not self.do(is_hidden), "an old answer is not said to be old")
+        self.run()
+        self.judge(self.do(is_hidden), "a new answer is said to be old")
+
     def two_tabs(self) -> None:
         """The other tab is told."""
         self.open()
@@ -661,6 +707,13 @@ class Walk:
             self.browser.open(serving.url)
             told = "return by('message').textContent.includes('could not be loaded')"
             self.comes(lambda: self.do(told), "a page without its module says nothing")
+
+    def from_disk(self) -> None:
+        """A page that is opened from a disk does not start, and says why."""
+        self.browser.open((self.bench.page / "index.html").as_uri())
+        time.sleep(0.5)
+        said = self.text_of("message")
+        self.judge("opened from a disk" in " ".join(said.split()), f"from a disk: {said}")
 
     def old_browser(self) -> None:
         source = "delete globalThis.CompressionStream"

@@ -43,6 +43,7 @@ MARKS = "; , : ( ) = .. + - * < <= > >= != & |".split()
 WORDS_OF_PLANS = """schedules leg swap guarded against until covers of from to first every
 times round half_even half_away floor ceil""".split()
 KIND = re.compile(r"^\| `([a-z0-9]+)([^|]*)` \|")
+LINK = re.compile(r"\[([^\]]*)\]\([^)]*\)")
 
 
 def json_of(data: object) -> bytes:
@@ -62,11 +63,12 @@ def language(top: Path) -> dict:
 
 
 def rows(table: str) -> Iterator[tuple[str, list[str]]]:
-    """The rows of a table of faults: the kind, and what is said of it."""
+    """The rows of a table of faults: the kind, and what is said of it, without its links."""
     for line in table.splitlines():
         found = KIND.match(line)
         if found:
-            yield found[1], [it.strip() for it in line.strip("| ").split(" | ")[1:]]
+            cells = LINK.sub(r"\1", line).strip("| ").split(" | ")[1:]
+            yield found[1], [it.strip() for it in cells]
 
 
 def faults(top: Path) -> dict:
