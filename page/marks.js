@@ -62,19 +62,26 @@ export function tell(said, place) {
   if (!said || !place) showOffers(null);
 }
 
+// Tells a fault of a table, below the tables.
+export function tellOfTable(said) {
+  by("table-fault").textContent = said;
+}
+
+// Marks a fault in its text, and answers whether it is in one that can be shown.
 export function showFault({ role, place, record, name, said }) {
-  if (!role) return;
   const editor = state.editors[role];
-  if (editor.held) return;
+  if (!editor || editor.held) return false;
   editor.clearMarks();
   showRole(role);
   let at = null;
   if (place) at = editor.markFault(place, said);
   else if (record) at = editor.markLine(lineOfRecord(editor.text, record), said);
   else if (name) at = editor.markContract(name, said);
-  if (!ROLES[role].isTable) tell(said, place);
+  if (ROLES[role].isTable) tellOfTable(`Line ${(at?.line ?? 0) + 1}: ${said}`);
+  else tell(said, place);
   if (at) editor.goTo(at);
   if (place) offersAt(editor, at);
+  return at !== null;
 }
 
 async function offersAt(editor, place) {

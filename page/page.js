@@ -4,7 +4,7 @@ import { defineModes } from "./editor.js";
 import { fillRecipes, loadRun, showRuns } from "./examples.js";
 import { Form, ROLES } from "./form.js";
 import * as keeping from "./keeping.js";
-import { mark, offerAtCursor, showOffers, tell } from "./marks.js";
+import { mark, offerAtCursor, showOffers, tell, tellOfTable } from "./marks.js";
 import { Runner } from "./runner.js";
 import * as shown from "./shown.js";
 import { by, button, say, state } from "./state.js";
@@ -33,7 +33,8 @@ function changed(editor) {
   clearTimeout(namesSoon);
   clearTimeout(keepingSoon);
   editor.clearMarks();
-  if (!ROLES[editor.role].isTable) showOffers(null);
+  if (ROLES[editor.role].isTable) tellOfTable("");
+  else showOffers(null);
   pausing.set(
     editor.role,
     setTimeout(() => mark(editor), PAUSE),
@@ -116,8 +117,8 @@ async function run() {
   const asked = state.form.rolesOf().map((it) => [it, state.editors[it].contents]);
   const said = await state.runner.run(words, filesOf(roles));
   shown.setRunning(false);
-  shown.show({ command: words[0], words, roles, asked, ...said });
-  if (hasBegun && said.status === 0) by("answer").scrollIntoView({ block: "nearest" });
+  const isInText = shown.show({ command: words[0], words, roles, asked, ...said });
+  if (hasBegun && !isInText) by("answer").scrollIntoView({ block: "nearest" });
 }
 
 async function copyLink() {
@@ -211,6 +212,7 @@ function forget() {
   shown.tellOld();
   by("status").classList.remove("fault");
   tell(null);
+  tellOfTable("");
   state.form.values = {};
   choose("check");
   clearTimeout(keepingSoon);

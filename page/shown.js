@@ -4,7 +4,7 @@ import { tableOf } from "./answers.js";
 import { faultOf, statusText } from "./faults.js";
 import { ROLES } from "./form.js";
 import { lifeOf } from "./life.js";
-import { showFault } from "./marks.js";
+import { showFault, tellOfTable } from "./marks.js";
 import * as picture from "./picture.js";
 import { by, say, state } from "./state.js";
 
@@ -27,13 +27,20 @@ export function setRunning(now) {
   by("stop").disabled = !now;
 }
 
+// Shows what a run said. Answers whether its fault is shown in a text, where the user is led.
 export function show(said) {
   state.answer = said;
   by("asked").textContent = said.command;
   tellOld();
+  tellOfTable("");
   picture.clear();
-  if (said.stopped) return showNone("Stopped. What you typed is still here.");
-  if (said.trap) return showNone(`No answer: ${trapText(said.trap)}`);
+  const why = said.stopped
+    ? "Stopped. What you typed is still here."
+    : said.trap && `No answer: ${trapText(said.trap)}`;
+  if (why) {
+    showNone(why);
+    return false;
+  }
   const { command, status, text, bytes } = said;
   const fault = faultOf(state.data, command, said.roles, status, text);
   showText(text);
@@ -52,7 +59,7 @@ export function show(said) {
   // A portfolio that is left is a text, though payments stand before it.
   const isTable = table?.rows.length && !["advance", "novate"].includes(command);
   view(isTable ? "table" : "text");
-  if (fault) showFault(fault);
+  return Boolean(fault) && showFault(fault);
 }
 
 function trapText(trap) {

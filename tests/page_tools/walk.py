@@ -335,6 +335,9 @@ class Walk:
         self.choose("flows")
         said, _ = self.run()
         self.judge("outside the bounds" in said, f"a bad record is said to be {said}")
+        below = self.text_of("table-fault")
+        holds = below.startswith("Line 4: ") and "outside the bounds" in below
+        self.judge(holds, f"below the table is said {below}")
         found = self.do("return ed('fixings').getAllMarks().map((it) => it.find().from.line)")
         self.judge(found == [3], f"a bad record is marked at the lines {found}")
 
