@@ -50,7 +50,6 @@ def files(library: bytes) -> Files:
     """The files of the wheel with this library, without the list of them."""
     package = sorted(it for it in (HERE / NAME).rglob("*") if it.is_file() and "__pycache__" not in it.parts and it.suffix != ".so")
     found = {str(it.relative_to(HERE)): it.read_bytes() for it in package}
-    found[f"{NAME}/commands.toml"] = (TOP / "commands.toml").read_bytes()
     found[f"{NAME}/{LIBRARY}"] = library
     info = f"{NAME}-{version()}.dist-info"
     found[f"{info}/LICENSE"] = (TOP / "LICENSE").read_bytes()

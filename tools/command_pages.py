@@ -3,7 +3,7 @@ import os
 import re
 import textwrap
 
-from tilugba.command_table import SETTING, Command, Kind, Option, Table
+from command_table import SETTING, Command, Kind, Option, Table
 
 # Wider lines than this are not shown as what an example prints.
 WIDTH = 76

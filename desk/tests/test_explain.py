@@ -459,8 +459,10 @@ class Everywhere(Room):
         self.assertGreater(explained, 300)
 
     def test_time(self) -> None:
-        """On texts and tables of 100 kB an explanation takes at most 0.15 seconds of a quiet processor beyond Python's own start, which
-        is what it costs beside the program. What Python keeps of the package is there, as after any first use."""
+        """On texts and tables of 100 kB an explanation takes at most 0.15 seconds of a quiet processor
+        beside the program, the start of Python among them. What Python keeps of the package is there,
+        as after any first use.
+        """
         deal = "contract c{} = scale(round(half_even, 2, obs(EURUSD, 0)), pay(EUR, Me, Acme));\n"
         book = HEAD + "".join(deal.format(number) for number in range(1_500))
         good, empty = self.file("good.txt", book), self.file("empty.csv", EMPTY)
@@ -470,25 +472,39 @@ class Everywhere(Room):
             "a refused contract": ("check", self.file("refused.txt", book + deal.format(9_999).replace("2,", "3,"))),
             "thirty refused contracts": ("check", self.file("many.txt", book.replace("half_even, 2,", "half_even, 3,", 30))),
             "a missing fixing": ("flows", good, empty),
+            "one that a long table lacks": ("flows", good, self.file("late.csv", EMPTY + rows.replace("EURUSD,0,1.1000\n", ""))),
             "a record of a table": ("flows", good, self.file("rows.csv", f"{EMPTY}{rows}EURUSD,2026-1-1,1.1\n")),
             "a name": ("flows", good, empty, "--contract", "c"),
         }
         self.assertGreater(min(good.stat().st_size, (self.folder / "rows.csv").stat().st_size), 100_000)
-        start = min(self.processor_time("-c", "pass") for _ in range(5))
         for title, words in runs.items():
-            explain = [str(DESK / "tilugba-desk"), "explain", *map(str, words)]
-            self.processor_time(*explain)
-            explained = min(self.processor_time(*explain) for _ in range(5))
+            asked = [os.fspath(it) for it in words]
+            explain = [sys.executable, str(DESK / "tilugba-desk"), "explain", *asked]
+            self.processor_time(explain)
+            explained = min(self.processor_time(explain) for _ in range(5))
+            answered = min(self.processor_time([str(the_program().path), *asked]) for _ in range(5))
             with self.subTest(title):
-                self.assertLess(explained - start, 0.15 * slowness())
+                self.assertLess(explained - answered, 0.15 * slowness())
 
-    def processor_time(self, *words: str) -> float:
-        """The seconds of a processor that Python takes for these words."""
+    def processor_time(self, words: list[str]) -> float:
+        """The seconds of a processor that these words take."""
         kept = {**os.environ, "PYTHONPYCACHEPREFIX": str(self.folder / "kept"), "PYTHONDONTWRITEBYTECODE": ""}
         before = resource.getrusage(resource.RUSAGE_CHILDREN)
-        subprocess.run([sys.executable, *words], capture_output=True, env=kept)
+        subprocess.run(words, capture_output=True, env=kept)
         after = resource.getrusage(resource.RUSAGE_CHILDREN)
         return after.ru_utime - before.ru_utime + after.ru_stime - before.ru_stime
+
+    def test_what_is_loaded(self) -> None:
+        """Each of these modules takes as long to load as a text to explain, and none of them is asked for."""
+        book = self.file("book.txt", HEAD + "contract c = scale(1,5, zero);")
+        dear = {"dataclasses", "inspect", "tomllib", "json", "shutil", "tempfile", "difflib", "hashlib"}
+        script = f"import sys; from tilugba import cli; sys.argv[1:] = ['explain', 'check', {str(book)!r}]; " + (
+            "print(cli.main(), *sorted(sys.modules))"
+        )
+        ran = subprocess.run([sys.executable, "-I", "-c", f"import sys; sys.path.insert(0, {str(DESK)!r}); {script}"],
+                             capture_output=True, text=True, env={"TILUGBA": str(the_program().path)})  # fmt: skip
+        status, *loaded = ran.stdout.split()
+        self.assertEqual((status, sorted(dear & set(loaded))), ("6", []), ran.stderr)
 
 
 if __name__ == "__main__":

@@ -7,7 +7,6 @@ import random
 import re
 import tempfile
 import unittest
-from collections import Counter
 from concurrent.futures import ProcessPoolExecutor
 from functools import partial
 from pathlib import Path

@@ -19,7 +19,7 @@ from pathlib import Path
 from typing import Literal, TypeVar
 
 from . import answer_rows, exact_tables, program
-from .answer_rows import Advanced, Flow, Named, Position, Row, Rows, Sample, Scenarios, Verdict
+from .answer_rows import Advanced, Flow, Position, Row, Rows, Sample, Scenarios, Verdict
 from .children import Limited
 from .engines import ByProgram, Engine, Found, Library
 from .errors import NoAnswer, ReadError, error_of

@@ -42,7 +42,7 @@ def overview() -> argparse.ArgumentParser:
         usage=f"{COMMAND} SUBCOMMAND [OPTION..] ..",
         description=PURPOSE,
         epilog="subcommands:\n" + "\n".join(lines) + f"\n\n{COMMAND} SUBCOMMAND --help says more of one.",
-        formatter_class=argparse.RawDescriptionHelpFormatter,
+        formatter_class=Help,
         allow_abbrev=False,
     )
     parser.add_argument("subcommand", metavar="SUBCOMMAND", help="one of the names below")
@@ -54,6 +54,26 @@ def seconds(text: str) -> float:
     if not 0 < number < 1e9:
         raise ValueError
     return number
+
+
+class Help(argparse.RawDescriptionHelpFormatter):
+    """Help as wide as the terminal. For each argument `argparse` makes one, and for its width it loads
+    much of the standard library.
+    """
+
+    def __init__(self, prog: str) -> None:
+        super().__init__(prog, width=columns() - 2)
+
+
+def columns() -> int:
+    """The columns of the terminal; 80 if there is none, and COLUMNS says none."""
+    told = os.environ.get("COLUMNS", "")
+    if told.isdecimal() and int(told) > 0:
+        return int(told)
+    try:
+        return os.get_terminal_size(sys.__stdout__.fileno()).columns or 80
+    except (AttributeError, ValueError, OSError):
+        return 80
 
 
 class Parser(argparse.ArgumentParser):
@@ -72,7 +92,7 @@ def parser_of(name: str, module: ModuleType) -> argparse.ArgumentParser:
     parser = Parser(
         prog=f"{COMMAND} {name}",
         description=f"{first}\n\n{rest}" if rest else first,
-        formatter_class=argparse.RawDescriptionHelpFormatter,
+        formatter_class=Help,
         allow_abbrev=False,
     )
     parser.usage_status = getattr(module, "USAGE_STATUS", Status.USAGE)

@@ -3,9 +3,8 @@
 from __future__ import annotations
 
 from collections.abc import Callable, Mapping, Sequence
-from dataclasses import dataclass, field
+from typing import NamedTuple
 
-from .command_table import Command, read_table
 from .days import day_of
 from .texts import tokens
 from .texts.grammar import CODE, MODES, PORTFOLIO, SCHEDULES, Grammar
@@ -16,6 +15,27 @@ DAY, NAME, MODE, FLAG = "DAY", "NAME", "MODE", ""
 BOOK, FIX, SCEN, CURVE, CODE_FILE, PLANS, NUMBER = "PORT", "FIX", "SCEN", "CURVE", "CODE", "PLANS", "NUMBER"
 GRAMMARS: Mapping[str, Grammar] = {BOOK: PORTFOLIO, CODE_FILE: CODE, PLANS: SCHEDULES}
 MOST_DAYS, MOST_SAMPLE = 100_000, 10_000
+# The form of each command: what may be left out is in brackets, and what is in capitals is a file or
+# the value of an option.
+WRITTEN = (
+    # made of commands.toml by tools/check-commands
+    "check PORT",
+    "flows PORT [FIX] [--until DAY] [--contract NAME] [--net]",
+    "advance PORT FIX --to DAY",
+    "payoff PORT --contract NAME [--plain]",
+    "value CODE FIX CURVE [T=N].. --at DAY --from P --to Q --asset A",
+    "scenarios CODE SCEN CURVE [T=N].. --at DAY --from P --to Q --asset A --mean MODE",
+    "migrate PORT",
+    "expand PLANS",
+    "positions PORT [FIX] [--until DAY]",
+    "settle PORT [FIX] [--until DAY]",
+    "novate PORT FIX --to DAY --contract NAME --old P --new Q",
+    "sample NUMBER",
+    # end of what is made
+)
+# The kinds of the values of options by the words that their forms have; all others are names.
+SORTS = {"DAY": DAY, "MODE": MODE}
+SETTING = "T=N"
 
 
 def is_day(word: str) -> bool:
@@ -35,56 +55,65 @@ KINDS: Mapping[str, tuple[Callable[[str], bool], str]] = {
 }
 
 
-@dataclass(frozen=True)
-class Form:
-    """What a command takes: its files, of which the first ones have to be there, its options with their kinds, and settings `T=N`."""
+class Form(NamedTuple):
+    """What a command takes: its files, of which the first ones have to be there, its options with
+    their kinds, and settings `T=N`. A number counts as a file.
+    """
 
-    command: Command
+    written: str
     files: tuple[str, ...]
     least: int
     options: Mapping[str, str]
     required: tuple[str, ...]
-
-    @property
-    def has_settings(self) -> bool:
-        return self.command.has_settings
+    has_settings: bool
 
     def told(self) -> str:
         """The form of the command, as in the program's own pages."""
-        return self.command.form()
+        return self.written
+
+    @property
+    def takes_files(self) -> bool:
+        return self.files != (NUMBER,)
 
 
-# What each kind of the table of commands is here.
-SORTS = {"day": DAY, "contract": NAME, "party": NAME, "asset": NAME, "mode": MODE}
-
-
-def form_of(command: Command) -> Form:
-    """The form of a command, of which a number counts as a file."""
-    files = [it.word for it in command.files] or [NUMBER]
+def form_of(written: str) -> Form:
+    """The form that is written so."""
+    options: dict[str, str] = {}
+    bare: list[str] = []
+    option = ""
+    for word in written.split()[1:]:
+        name = word.strip("[].")
+        if name.startswith("--"):
+            options[name], option = FLAG, "" if word.endswith("]") else name
+        elif option:
+            options[option], option = SORTS.get(name, NAME), ""
+        else:
+            bare.append(word)
     return Form(
-        command,
-        tuple(files),
-        sum(it.is_needed for it in command.files) or 1,
-        {f"--{it.name}": SORTS[it.kind.name] if it.kind else FLAG for it in command.options},
-        tuple(f"--{it.name}" for it in command.options if it.is_needed),
+        written,
+        tuple(it.strip("[]") for it in bare if SETTING not in it),
+        sum(not it.startswith("[") for it in bare),
+        options,
+        tuple(it for it in options if f"[{it}" not in written),
+        has_settings=any(SETTING in it for it in bare),
     )
 
 
-FORMS: Mapping[str, Form] = {name: form_of(it) for name, it in read_table().commands.items()}
+FORMS: Mapping[str, Form] = {it.partition(" ")[0]: form_of(it) for it in WRITTEN}
 
 
 class WrongWords(Exception):
     """What is wrong with words: one line."""
 
 
-@dataclass
 class Words:
     """Words that a command takes."""
 
-    command: str
-    files: list[str] = field(default_factory=list)
-    options: dict[str, str] = field(default_factory=dict)
-    settings: dict[str, int] = field(default_factory=dict)
+    def __init__(self, command: str) -> None:
+        self.command = command
+        self.files: list[str] = []
+        self.options: dict[str, str] = {}
+        self.settings: dict[str, int] = {}
 
     @property
     def form(self) -> Form:

@@ -7,8 +7,8 @@ from __future__ import annotations
 
 import datetime
 import re
-from dataclasses import dataclass, field
 from pathlib import Path
+from typing import NamedTuple
 
 from .program import Status, Stop, reason_of
 
@@ -52,8 +52,7 @@ def is_weekend(ordinal: int) -> bool:
     return (ordinal - 1) % 7 >= 5
 
 
-@dataclass(frozen=True)
-class Day:
+class Day(NamedTuple):
     """A day as it is written: a number, or the ordinal of a date."""
 
     number: int
@@ -71,12 +70,11 @@ def day_of(text: str) -> Day | None:
     return None if ordinal is None else Day(ordinal, is_date=True)
 
 
-@dataclass(frozen=True)
-class Calendar:
+class Calendar(NamedTuple):
     """What the days of a portfolio are: dates from an origin on, if there is one, and those on which nobody pays."""
 
     origin: int | None = None
-    holidays: frozenset[int] = field(default_factory=frozenset)
+    holidays: frozenset[int] = frozenset()
 
     def ordinal(self, day: int) -> int | None:
         return None if self.origin is None else self.origin + day

@@ -6,7 +6,6 @@ import os
 import sys
 from collections.abc import Iterable
 from contextlib import suppress
-from dataclasses import dataclass
 from functools import cached_property
 from pathlib import Path
 from typing import TYPE_CHECKING, BinaryIO
@@ -20,16 +19,26 @@ if TYPE_CHECKING:
 COMMAND = "tilugba-desk"
 
 
-@dataclass
 class Desk:
-    """One run of a subcommand. `beside` is the folder of the command itself; the program is looked for when it is first asked for."""
+    """One run of a subcommand. `beside` is the folder of the command itself; the program is looked
+    for when it is first asked for.
+    """
 
-    name: str
-    beside: Path
-    program_path: str | None = None
-    seconds: float | None = None
-    output: BinaryIO | None = None
-    errors: BinaryIO | None = None
+    def __init__(
+        self,
+        name: str,
+        beside: Path,
+        program_path: str | None = None,
+        seconds: float | None = None,
+        output: BinaryIO | None = None,
+        errors: BinaryIO | None = None,
+    ) -> None:
+        self.name = name
+        self.beside = beside
+        self.program_path = program_path
+        self.seconds = seconds
+        self.output = output
+        self.errors = errors
 
     @cached_property
     def program(self) -> Program:

@@ -4,7 +4,6 @@ from __future__ import annotations
 
 import datetime
 from collections.abc import Callable
-from dataclasses import fields
 
 from .days import FIRST_ORDINAL, LAST_ORDINAL
 from .program import MEANINGS, Fault, Status
@@ -147,7 +146,7 @@ KINDS[int(Status.NOT_WRITTEN)] = OutOfMemory
 def error_of(fault: Fault, text: bytes = b"") -> TilugbaError:
     """The exception of a fault, with the date of a missing fixing if the text of the call has an origin."""
     kind = KINDS.get(fault.status, NoAnswer)
-    parts = {it.name: getattr(fault.cause, it.name) for it in fields(fault.cause)} if fault.cause else {}
+    parts = fault.cause._asdict() if fault.cause else {}
     if kind is MissingFixing:
         parts["date"] = date_of(text, parts["day"])
     return kind(fault.line or ("" if kind is not NoAnswer else fault.message), **parts)

@@ -13,9 +13,8 @@ import signal
 import subprocess
 from collections.abc import Callable, Iterable, Iterator, Mapping, Sequence
 from contextlib import contextmanager, suppress
-from dataclasses import dataclass
 from pathlib import Path
-from typing import BinaryIO
+from typing import BinaryIO, NamedTuple
 
 NAME = "tilugba"
 VARIABLE = "TILUGBA"
@@ -51,22 +50,19 @@ class Stop(Exception):
         self.message = message
 
 
-@dataclass(frozen=True)
-class UnreadFile:
+class UnreadFile(NamedTuple):
     """A file was not read: its place among the files of the command, from 1."""
 
     place: int
 
 
-@dataclass(frozen=True)
-class LongFile:
+class LongFile(NamedTuple):
     """A file is too long."""
 
     place: int
 
 
-@dataclass(frozen=True)
-class BadText:
+class BadText(NamedTuple):
     """A text does not parse: the kind of the fault, its line, and its column in bytes, both from 1."""
 
     kind: str
@@ -74,22 +70,19 @@ class BadText:
     column: int
 
 
-@dataclass(frozen=True)
-class UnknownName:
+class UnknownName(NamedTuple):
     """A name on the command line is not declared."""
 
     name: str
 
 
-@dataclass(frozen=True)
-class BadDay:
+class BadDay(NamedTuple):
     """A day on the command line is out of range."""
 
     word: str
 
 
-@dataclass(frozen=True)
-class Refusal:
+class Refusal(NamedTuple):
     """A contract, or code, is not accepted: the rule that it breaks, and the node at which it does."""
 
     name: str
@@ -97,8 +90,7 @@ class Refusal:
     node: int
 
 
-@dataclass(frozen=True)
-class BadRow:
+class BadRow(NamedTuple):
     """A record of a table is refused; a conflict names the earlier record."""
 
     place: int
@@ -107,8 +99,7 @@ class BadRow:
     earlier: int | None
 
 
-@dataclass(frozen=True)
-class MissingFixing:
+class MissingFixing(NamedTuple):
     """A fixing is missing, of `scenarios` in a scenario."""
 
     label: str
@@ -116,15 +107,13 @@ class MissingFixing:
     scenario: str | None
 
 
-@dataclass(frozen=True)
-class TooManyScenarios:
+class TooManyScenarios(NamedTuple):
     """There are too many scenarios for such amounts."""
 
     count: int
 
 
-@dataclass(frozen=True)
-class Acceptance:
+class Acceptance(NamedTuple):
     """What `check` says of an accepted contract, in its own words: `start` may be `always`."""
 
     name: str
@@ -188,8 +177,7 @@ class Fault(Stop):
         self.cause: Cause = cause_of(*told.groups()) if told and cause_of else None
 
 
-@dataclass(frozen=True)
-class Answer:
+class Answer(NamedTuple):
     """How a run ended: its status, what it printed, and what it said on standard error, which the program leaves empty."""
 
     status: int
@@ -230,8 +218,7 @@ def verdict_of(line: str) -> Verdict:
     raise Stop(Status.DESK, f"check printed a line that is no verdict: {line}")
 
 
-@dataclass(frozen=True)
-class Program:
+class Program(NamedTuple):
     """The program at a path, and after how many seconds a run is ended; without a number it may take as long as it needs."""
 
     path: Path

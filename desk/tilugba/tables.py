@@ -6,9 +6,9 @@
 from __future__ import annotations
 
 import re
-from collections.abc import Iterable, Iterator
-from dataclasses import dataclass
+from collections.abc import Collection, Iterable, Iterator
 from pathlib import Path
+from typing import NamedTuple
 
 from .days import Day, day_of
 from .files import read_file
@@ -27,10 +27,12 @@ UNQUOTED = re.compile(rb"[^,\r\n]*")
 LINE_ENDS = re.compile(rb"[\r\n]*")
 PLAIN = re.compile(rb'([^",\r\n]*(?:,[^",\r\n]*)*)(?:\r\n?|\n|\Z)')
 LINE_END = re.compile(rb"\r\n?|\n")
+# A record, whatever its fields say, with the line ends behind it.
+FIELD = rb'(?:"(?:[^"]++|"")*+(?:"[^,\r\n]*+)?|(?!")[^,\r\n]*+)'
+RECORD = re.compile(rb"(?!\Z)" + FIELD + rb"(?:," + FIELD + rb")*+[\r\n]*+")
 
 
-@dataclass(frozen=True)
-class Record:
+class Record(NamedTuple):
     """A record: its number from 1 on with the header, the line on which it begins, its fields, and its bytes with the line end."""
 
     number: int
@@ -45,7 +47,7 @@ class Record:
 
 def records(data: bytes) -> Iterator[Record]:
     """The records of a table, whatever they say. A line without a byte is none, and a byte order mark is passed over."""
-    at = LINE_ENDS.match(data, len(MARK) if data.startswith(MARK) else 0).end()
+    at = first_at(data)
     line, counted, number = 1, 0, 0
     while at < len(data):
         number += 1
@@ -54,6 +56,24 @@ def records(data: bytes) -> Iterator[Record]:
         fields, end = record_at(data, at)
         yield Record(number, line, tuple(fields), data[at:end])
         at = LINE_ENDS.match(data, end).end()
+
+
+def first_at(data: bytes) -> int:
+    """Where the first record begins."""
+    return LINE_ENDS.match(data, len(MARK) if data.startswith(MARK) else 0).end()
+
+
+def records_numbered(data: bytes, numbers: Collection[int]) -> dict[int, Record]:
+    """Those of these numbers, as `records` has them. The others are only counted, which is faster."""
+    found: dict[int, Record] = {}
+    for number, it in enumerate(RECORD.finditer(data, first_at(data)), 1):
+        if number in numbers:
+            fields, end = record_at(data, it.start())
+            line = 1 + len(LINE_END.findall(data, 0, it.start()))
+            found[number] = Record(number, line, tuple(fields), data[it.start() : end])
+            if number >= max(numbers):
+                break
+    return found
 
 
 def record_at(data: bytes, at: int) -> tuple[list[bytes], int]:
@@ -102,12 +122,12 @@ def read(path: str | Path, header: tuple[str, ...]) -> list[Record]:
     return read_whole(path, header)[2]
 
 
-@dataclass
 class DayTable:
     """Fixings by label and day, and whether days are dates; without a row they are neither."""
 
-    values: dict[str, dict[int, str]]
-    are_dates: bool | None = None
+    def __init__(self, values: dict[str, dict[int, str]], are_dates: bool | None = None) -> None:
+        self.values = values
+        self.are_dates = are_dates
 
     def add(self, label: str, day: Day, value: str) -> str | None:
         """Takes a row, or says why it does not go with those before it."""

@@ -18,7 +18,7 @@ from concurrent.futures import ThreadPoolExecutor
 from dataclasses import dataclass
 from decimal import Decimal
 
-from .. import decimals, lines
+from .. import decimals
 from ..desk import Desk
 from ..program import Fault, Program, Status, Stop
 from ..tables import read_file

@@ -4,7 +4,6 @@ from __future__ import annotations
 
 import os
 from collections.abc import Iterator, Sequence
-from dataclasses import dataclass, field
 from functools import cached_property
 from pathlib import Path
 from typing import TYPE_CHECKING
@@ -40,14 +39,22 @@ if TYPE_CHECKING:
 LAST_DAY, LAST_NEW_DAY = 1_100_000, 1_000_000
 
 
-@dataclass
 class Run:
-    """A run that is explained: the words, the program, its answer, and the bytes of files that cannot be read twice."""
+    """A run that is explained: the words, the program, its answer, and the bytes of files that
+    cannot be read twice.
+    """
 
-    words: Sequence[str]
-    program: Program
-    answer: Answer
-    kept: dict[str, bytes] = field(default_factory=dict)
+    def __init__(
+        self,
+        words: Sequence[str],
+        program: Program,
+        answer: Answer,
+        kept: dict[str, bytes] | None = None,
+    ) -> None:
+        self.words = words
+        self.program = program
+        self.answer = answer
+        self.kept = {} if kept is None else kept
 
     @cached_property
     def asked(self) -> Words:

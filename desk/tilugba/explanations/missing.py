@@ -4,8 +4,8 @@ from __future__ import annotations
 
 import re
 from collections.abc import Iterable, Iterator
-from dataclasses import dataclass
 from itertools import islice
+from typing import NamedTuple
 
 from ..days import Calendar
 from ..program import MissingFixing, Program, Stop
@@ -24,8 +24,7 @@ AHEAD = re.compile(r"\b(?:after\s*\(|within\b)\s*([0-9]+)\s*(?:,|then\b)")
 WAITS = re.compile(r"\b(?:after|within)\b")
 
 
-@dataclass(frozen=True)
-class Asked:
+class Asked(NamedTuple):
     """What was asked for: the text, the words behind the book for a run of one contract, and whether contracts can be run apart."""
 
     file: str

@@ -3,7 +3,7 @@
 from __future__ import annotations
 
 from collections.abc import Iterator
-from dataclasses import dataclass, field
+from typing import NamedTuple
 
 from ..texts.tokens import Place, Source
 
@@ -11,15 +11,14 @@ from ..texts.tokens import Place, Source
 WIDEST, BEFORE = 120, 70
 
 
-@dataclass(frozen=True)
-class Note:
+class Note(NamedTuple):
     """An explanation: where, what, the source with a place in it, and what else is said."""
 
     where: str
     title: str
     source: Source | None = None
     place: Place | None = None
-    lines: tuple[str, ...] = field(default_factory=tuple)
+    lines: tuple[str, ...] = ()
 
     def told(self) -> Iterator[str]:
         """The lines of the explanation. The first has the form `FILE:LINE:COLUMN: TITLE`, by which editors jump."""

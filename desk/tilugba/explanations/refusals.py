@@ -3,8 +3,8 @@
 from __future__ import annotations
 
 from collections.abc import Callable, Iterator, Mapping
-from dataclasses import dataclass, replace
 from types import MappingProxyType
+from typing import NamedTuple
 
 from ..program import Refusal
 from ..texts import trees
@@ -42,8 +42,7 @@ PLANS = {
 }
 
 
-@dataclass(frozen=True)
-class Node:
+class Node(NamedTuple):
     """The node that a refusal names, with its bytes in the text."""
 
     reading: Reading
@@ -79,8 +78,9 @@ def at_setting(declared: Declarations, settings: Mapping[str, int]) -> Declarati
     """The declarations, with these numbers of templates."""
     if not settings:
         return declared
-    templates = {name: replace(it, days=settings.get(name, it.days)) for name, it in declared.names(NameSet.TEMPLATE).items()}
-    return replace(declared, sets=declared.sets | {NameSet.TEMPLATE: templates})
+    known = declared.names(NameSet.TEMPLATE).values()
+    templates = {it.name: Declared(it.name, it.at, settings.get(it.name, it.days)) for it in known}
+    return declared.with_names(NameSet.TEMPLATE, templates)
 
 
 def plan_note(file: str, reading: Reading, title: str, number: int | None, refusal: Refusal) -> Note:

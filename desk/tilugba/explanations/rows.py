@@ -3,7 +3,7 @@
 from __future__ import annotations
 
 import re
-from dataclasses import dataclass
+from typing import NamedTuple
 
 from .. import days, tables
 from ..command_line import CURVE, FIX, SCEN, nearest
@@ -22,11 +22,11 @@ FIELDS = {"label": -3, "day": -2, "value": -1, "bounds": -1, "conflict": -1}
 CURVE_FIELDS = {"day": 0, "factor": 1, "zero": 0, "rising": 0}
 # A number of five digits is taken for a date of a spreadsheet if that is no farther from day 0 than this.
 NEAR = 20_000
+SERIAL = re.compile(rb',"?[0-9]{5}"?,')
 SLASHED = re.compile(r"([0-9]{1,2})[/.]([0-9]{1,2})[/.]([0-9]{4})")
 
 
-@dataclass(frozen=True)
-class Table:
+class Table(NamedTuple):
     """A table with a record at fault, and the declarations that it goes with."""
 
     file: str
@@ -42,7 +42,8 @@ class Table:
 
 def note_of(table: Table, cause: BadRow) -> Note:
     """The explanation of a record."""
-    found = {it.number: it for it in tables.records(table.data) if it.number in (cause.record, cause.earlier, cause.record - 1)}
+    numbers = {cause.record - 1, cause.record, cause.earlier or cause.record}
+    found = tables.records_numbered(table.data, numbers)
     record = found.get(cause.record)
     title = f"{cause.kind} (record {cause.record})"
     if record is None:
@@ -255,7 +256,7 @@ def curve_lines(record: Record, cause: BadRow, before: Record | None) -> list[st
 def serial_date(table: Table, label: str, calendar: Calendar) -> str | None:
     """A record whose day is a spreadsheet's number of a date, one of the label if there is one."""
     first = calendar.ordinal(0)
-    if first is None:
+    if first is None or not SERIAL.search(table.data):
         return None
     found = [it for it in tables.records(table.data) if len(it.fields) == len(table.header) and is_serial(it.texts[-2], first)]
     if not found:

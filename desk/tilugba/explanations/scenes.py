@@ -2,7 +2,6 @@
 
 from __future__ import annotations
 
-from dataclasses import dataclass
 from functools import cached_property
 from itertools import islice
 
@@ -16,20 +15,17 @@ from ..texts.trees import Statement, Term
 FEW = 400
 
 
-@dataclass(frozen=True)
 class Scene:
     """A fault of a text, in the statement in which it is."""
 
-    reading: Reading
-    fault: Fault
+    def __init__(self, reading: Reading, fault: Fault) -> None:
+        self.reading = reading
+        self.fault = fault
 
     @cached_property
     def number(self) -> int:
         """The segment of the fault; that of a token behind a statement that lacks its end is the statement's."""
-        for number, segment in enumerate(self.reading.segments):
-            if self.fault.at < segment.end or number == len(self.reading.segments) - 1:
-                found = number
-                break
+        found = self.reading.segment_at(self.fault.at)
         behind = found > 0 and self.reading.read(found - 1).missing and self.is_first_of(found)
         return found - 1 if behind else found
 

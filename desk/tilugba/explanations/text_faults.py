@@ -37,10 +37,11 @@ def note_of_fault(file: str, reading: Reading, fault: Fault) -> Note:
 def fault_at(reading: Reading, place: Place, kind: str) -> Fault | None:
     """The parser's fault at the place. It is looked for there first, so that a long text is not read whole."""
     at = reading.source.at(place)
-    numbers = [number for number in range(len(reading.segments)) if reading.segments[number].at <= at <= reading.segments[number].end]
-    if reading.source.no_utf8_at is not None or reading.is_broken:
-        numbers = []
-    found = [reading.fault_of(number) for number in numbers] or [reading.fault]
+    number = reading.segment_at(at)
+    # Where a segment begins the one before it may lack its end.
+    numbers = [number - 1, number] if number and reading.segments[number].at == at else [number]
+    is_whole = reading.source.no_utf8_at is None and not reading.is_broken
+    found = [reading.fault_of(it) for it in numbers] if is_whole else [reading.fault]
     return next((it for it in found if it and it.kind == kind and reading.source.place(it.at) == place), None)
 
 

@@ -39,7 +39,7 @@ class Book:
 
 def places_of_files(words: Sequence[str]) -> list[int]:
     """The places of those words that name files: the first of them that belong to no option."""
-    taking = {name: form for name, form in FORMS.items() if form.command.files}
+    taking = {name: form for name, form in FORMS.items() if form.takes_files}
     if words[0] not in taking:
         raise refused(f"the first word is one of {', '.join(taking)}")
     places: list[int] = []

@@ -6,7 +6,7 @@ A form is written with a blank between its parts. What is in capitals is a part 
 from __future__ import annotations
 
 from collections.abc import Mapping
-from dataclasses import dataclass
+from typing import NamedTuple
 
 from .names import NameSet
 from .parts import (
@@ -49,8 +49,7 @@ MODES = ("half_even", "half_away", "floor", "ceil")
 OPERATORS = ("+", "-", "*", "<", "<=", ">", ">=", "=", "!=", "&", "|")
 
 
-@dataclass(frozen=True)
-class Grammar:
+class Grammar(NamedTuple):
     """A grammar: its name, what a whole text is, and the words that begin a definition behind the declarations."""
 
     name: str

@@ -3,7 +3,7 @@
 from __future__ import annotations
 
 from collections.abc import Iterable
-from dataclasses import dataclass
+from typing import NamedTuple
 
 from .names import Declarations, Declared
 from .offers import Offers
@@ -12,8 +12,7 @@ from .tokens import Token
 from .trees import Argument, Statement, Term
 
 
-@dataclass(frozen=True)
-class Fault:
+class Fault(NamedTuple):
     """A fault of a text: its kind, the token at which it is, and what may stand there."""
 
     kind: str

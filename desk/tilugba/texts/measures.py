@@ -6,9 +6,8 @@ A term may be as deep as a text may be, so trees are walked by lists and not by 
 from __future__ import annotations
 
 from collections.abc import Callable, Iterator
-from dataclasses import dataclass
 from functools import cached_property
-from typing import TypeVar
+from typing import NamedTuple, TypeVar
 
 from . import trees
 from .names import Declarations, NameSet
@@ -20,8 +19,7 @@ NUMERIC = ("+", "-", "*")
 LOGIC = ("&", "|")
 
 
-@dataclass(frozen=True)
-class Kind:
+class Kind(NamedTuple):
     """What an expression is: a truth value, or a number with so many decimals."""
 
     sort: str

@@ -3,7 +3,6 @@
 from __future__ import annotations
 
 import enum
-from dataclasses import dataclass, field
 
 
 class NameSet(enum.Enum):
@@ -20,31 +19,45 @@ class NameSet(enum.Enum):
         return "parties" if self is NameSet.PARTY else self.value + "s"
 
 
-@dataclass(slots=True)
 class Declared:
-    """A declared name and the place of its token. A flag is a label without decimals; bounds are counted in a label's last decimal."""
+    """A declared name and the place of its token. A flag is a label without decimals; bounds are
+    counted in a label's last decimal.
+    """
 
-    name: str
-    at: int
-    decimals: int | None = None
-    low: int | None = None
-    high: int | None = None
-    days: int | None = None
+    __slots__ = ("name", "at", "decimals", "low", "high", "days")
+
+    def __init__(self, name: str, at: int, days: int | None = None) -> None:
+        self.name = name
+        self.at = at
+        self.decimals: int | None = None
+        self.low: int | None = None
+        self.high: int | None = None
+        self.days = days
 
     @property
     def is_flag(self) -> bool:
         return self.decimals is None
 
 
-@dataclass(slots=True)
 class Declarations:
     """What the statements before the contracts, code or plans declare."""
 
-    version: int = 1
-    amounts: int = 0
-    origin: int | None = None
-    start: int = 0
-    sets: dict[NameSet, dict[str, Declared]] = field(default_factory=lambda: {kind: {} for kind in NameSet})
+    __slots__ = ("version", "amounts", "origin", "start", "sets")
+
+    def __init__(self) -> None:
+        self.version = 1
+        self.amounts = 0
+        self.origin: int | None = None
+        self.start = 0
+        self.sets: dict[NameSet, dict[str, Declared]] = {kind: {} for kind in NameSet}
+
+    def with_names(self, kind: NameSet, names: dict[str, Declared]) -> Declarations:
+        """The same, but for the names of one set."""
+        found = Declarations()
+        found.version, found.amounts = self.version, self.amounts
+        found.origin, found.start = self.origin, self.start
+        found.sets = self.sets | {kind: names}
+        return found
 
     def names(self, kind: NameSet) -> dict[str, Declared]:
         return self.sets[kind]

@@ -2,7 +2,8 @@
 
 from __future__ import annotations
 
-from dataclasses import dataclass, field
+from collections.abc import Mapping, Sequence
+from typing import NamedTuple
 
 from . import tokens
 from .names import NameSet
@@ -35,8 +36,7 @@ def number_told(mantissa: int, decimals: int) -> str:
     return f"{'-' if mantissa < 0 else ''}{whole}{'.' if fraction else ''}{fraction}"
 
 
-@dataclass(frozen=True)
-class Numbers:
+class Numbers(NamedTuple):
     """Numbers with at most so many decimals, within bounds that are counted in the last of these."""
 
     decimals: int
@@ -67,18 +67,30 @@ class Numbers:
         return f"{kind} up to {high}" if high is not None else kind
 
 
-@dataclass
 class Offers:
-    """What may stand at a place. `new` is the set that a new name goes into, or a text for one that is bound."""
+    """What may stand at a place. `new` is the set that a new name goes into, or a text for one that
+    is bound.
+    """
 
-    words: list[str] = field(default_factory=list)
-    marks: list[str] = field(default_factory=list)
-    names: dict[str, list[str]] = field(default_factory=dict)
-    new: NameSet | str | None = None
-    taken: frozenset[str] = frozenset()
-    numbers: list[Numbers] = field(default_factory=list)
-    date: bool = False
-    end: bool = False
+    def __init__(
+        self,
+        words: Sequence[str] = (),
+        marks: Sequence[str] = (),
+        names: Mapping[str, list[str]] | None = None,
+        new: NameSet | str | None = None,
+        taken: frozenset[str] = frozenset(),
+        numbers: Sequence[Numbers] = (),
+        date: bool = False,
+        end: bool = False,
+    ) -> None:
+        self.words = list(words)
+        self.marks = list(marks)
+        self.names = dict(names or {})
+        self.new = new
+        self.taken = taken
+        self.numbers = list(numbers)
+        self.date = date
+        self.end = end
 
     def add(self, other: Offers) -> None:
         """Takes over what else may stand here."""

@@ -9,7 +9,7 @@ from __future__ import annotations
 from typing import TYPE_CHECKING
 
 from ..days import ordinal_of
-from . import tokens, trees
+from . import tokens
 from .names import Declared, NameSet
 from .offers import GREATEST_DECIMALS, GREATEST_MANTISSA, Numbers, Offers, mantissa_of, whole_number
 from .tokens import Token

@@ -9,11 +9,11 @@ from __future__ import annotations
 import re
 from bisect import bisect_right
 from collections.abc import Iterator
-from dataclasses import dataclass, field, replace
 from functools import cached_property
+from typing import NamedTuple
 
 from . import tokens
-from .grammar import CODE, GRAMMARS, PORTFOLIO, Grammar
+from .grammar import GRAMMARS, PORTFOLIO, Grammar
 from .machine import Fault, Machine
 from .names import Declarations, Declared, NameSet
 from .offers import Offers
@@ -30,8 +30,8 @@ def border() -> re.Pattern[str]:
 
     Each branch begins with a letter, by which a text is searched faster than by what stands before a word.
     """
-    words = [rf"{word[0]}(?<![A-Za-z0-9_]{word[0]}){word[1:]}(?![A-Za-z0-9_])" for word in BEGINNINGS]
-    return re.compile("|".join([r"#[^\n]*", ";", *words]))
+    words = [rf"{word[0]}(?<=\b{word[0]}){word[1:]}\b" for word in BEGINNINGS]
+    return re.compile("|".join([r"#[^\n]*", ";", *words]), re.ASCII)
 
 
 BORDER = border()
@@ -41,28 +41,30 @@ MOST_REMEMBERED = 3
 NO_TOKEN = Token(tokens.STRAY, "", 0)
 
 
-@dataclass(frozen=True, slots=True)
-class Segment:
+class Segment(NamedTuple):
     """The bytes of a statement, with the gap before it."""
 
     at: int
     end: int
 
 
-@dataclass(slots=True)
-class Read:
-    """What was read of a statement: its tree, its first fault with a place in the segment, and whether a token is missing at its end."""
+class Read(NamedTuple):
+    """What was read of a statement: its tree, its first fault with a place in the segment, and
+    whether a token is missing at its end.
+    """
 
     statement: Statement
     fault: Fault | None
     missing: Offers | None = None
 
 
-@dataclass(slots=True)
 class Memory:
-    """What was read of definitions, by the text of each, under the last few declarations that a text had."""
+    """What was read of definitions, by the text of each, under the last few declarations that a
+    text had.
+    """
 
-    under: dict[str, dict[str, Read]] = field(default_factory=dict)
+    def __init__(self) -> None:
+        self.under: dict[str, dict[str, Read]] = {}
 
     def read_under(self, declarations: str) -> dict[str, Read]:
         """What was read under these declarations. Of those that were not asked for the longest, it is forgotten."""
@@ -227,9 +229,8 @@ class Reading:
 
     def declared_of(self, number: int) -> Declarations:
         """The declarations, with the names of the definitions before a segment."""
-        sets = dict(self.declared.sets)
-        sets[NameSet.CONTRACT] = {name: Declared(name, 0) for name, first in self.defined.items() if first < number}
-        return replace(self.declared, sets=sets)
+        before = {name: Declared(name, 0) for name, first in self.defined.items() if first < number}
+        return self.declared.with_names(NameSet.CONTRACT, before)
 
     # ---- faults
 

@@ -6,7 +6,7 @@ What is read depends on the rates, so these are the days on which it may be, and
 from __future__ import annotations
 
 from collections.abc import Iterator
-from dataclasses import dataclass
+from typing import NamedTuple
 
 from . import trees
 from .measures import Measures, date_of
@@ -14,8 +14,7 @@ from .names import Declarations
 from .trees import Term
 
 
-@dataclass(frozen=True)
-class Days:
+class Days(NamedTuple):
     """The days from a first to a last."""
 
     first: int
@@ -28,8 +27,7 @@ class Days:
         return self.first <= day <= self.last
 
 
-@dataclass(frozen=True)
-class Placed:
+class Placed(NamedTuple):
     """A term and the days on which it may stand."""
 
     term: Term

@@ -9,8 +9,8 @@ from __future__ import annotations
 import re
 from bisect import bisect_right
 from collections.abc import Iterator
-from dataclasses import dataclass
 from functools import cached_property
+from itertools import accumulate
 from typing import NamedTuple
 
 WORD, NAME, NUMBER, DATE, MARK, END, STRAY = "word", "name", "number", "date", "mark", "end", "stray"
@@ -65,11 +65,11 @@ class Place(NamedTuple):
     column: int
 
 
-@dataclass(frozen=True)
 class Source:
     """A text as bytes, and its lines."""
 
-    data: bytes
+    def __init__(self, data: bytes) -> None:
+        self.data = data
 
     @cached_property
     def text(self) -> str:
@@ -79,7 +79,8 @@ class Source:
     @cached_property
     def starts(self) -> list[int]:
         """Where each line begins."""
-        return [0, *(found.end() for found in re.finditer(b"\n", self.data))]
+        lengths = map(len, self.data.split(b"\n")[:-1])
+        return [at + number for number, at in enumerate(accumulate(lengths, initial=0))]
 
     @cached_property
     def no_utf8_at(self) -> int | None:

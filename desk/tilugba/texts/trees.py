@@ -3,7 +3,6 @@
 from __future__ import annotations
 
 from collections.abc import Iterator
-from dataclasses import dataclass, field
 from typing import NamedTuple
 
 from .names import Declared
@@ -21,18 +20,22 @@ class Argument(NamedTuple):
     at: int
 
 
-@dataclass(slots=True)
 class Term:
-    """A contract, an expression or an amount of code: its form, its bytes, the terms in it and what else stands in it, in order."""
+    """A contract, an expression or an amount of code: its form, its bytes, the terms in it and what
+    else stands in it, in order.
+    """
 
-    sort: str
-    form: str
-    at: int
-    end: int = -1
-    parts: list[Term] = field(default_factory=list)
-    arguments: list[Argument] = field(default_factory=list)
-    # Of a name, the place of what binds it.
-    binder: int = -1
+    __slots__ = ("sort", "form", "at", "end", "parts", "arguments", "binder")
+
+    def __init__(self, sort: str, form: str, at: int, end: int = -1) -> None:
+        self.sort = sort
+        self.form = form
+        self.at = at
+        self.end = end
+        self.parts: list[Term] = []
+        self.arguments: list[Argument] = []
+        # Of a name, the place of what binds it.
+        self.binder = -1
 
     def nodes(self) -> Iterator[Term]:
         """The term and all terms in it, as refusals count them."""
@@ -47,14 +50,18 @@ class Term:
         return [it.text for it in self.arguments if it.role in roles]
 
 
-@dataclass(slots=True)
 class Statement:
-    """A statement: its first word, what it declares, its term if it has one, and what else stands in it, in order."""
+    """A statement: its first word, what it declares, its term if it has one, and what else stands
+    in it, in order.
+    """
 
-    word: str = ""
-    declared: list[Declared] = field(default_factory=list)
-    term: Term | None = None
-    arguments: list[Argument] = field(default_factory=list)
+    __slots__ = ("word", "declared", "term", "arguments")
+
+    def __init__(self) -> None:
+        self.word = ""
+        self.declared: list[Declared] = []
+        self.term: Term | None = None
+        self.arguments: list[Argument] = []
 
     @property
     def name(self) -> str:

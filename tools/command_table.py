@@ -1,7 +1,4 @@
-"""The table of commands, commands.toml, as values: what the desk and other tools know of the words of the program, they ask here.
-
-The file lies in this package, or in the clone that the package is of.
-"""
+"""The table of commands, commands.toml, as values."""
 
 from __future__ import annotations
 
@@ -9,7 +6,7 @@ import tomllib
 from dataclasses import dataclass
 from pathlib import Path
 
-HERE = Path(__file__).resolve().parent
+TABLE = Path(__file__).resolve().parent.parent / "commands.toml"
 # The form of a setting of `value` and `scenarios`, as it is written in the form of a command.
 SETTING = "T=N"
 
@@ -93,15 +90,9 @@ class Table:
     always: tuple[int, ...] = ()
 
 
-def table_path() -> Path:
-    """Where the file lies."""
-    beside = HERE / "commands.toml"
-    return beside if beside.exists() else HERE.parents[1] / "commands.toml"
-
-
-def read_table(path: Path | None = None) -> Table:
+def read_table(path: Path = TABLE) -> Table:
     """Reads the file."""
-    told = tomllib.loads((path or table_path()).read_text(encoding="utf-8"))
+    told = tomllib.loads(path.read_text(encoding="utf-8"))
     kinds = {name: kind_of(name, it) for name, it in told["kind"].items()}
     statuses = {int(number): status_of(int(number), it) for number, it in told["status"].items()}
     commands = {it["name"]: command_of(it, told, kinds, statuses) for it in told["command"]}
