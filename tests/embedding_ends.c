@@ -9,6 +9,13 @@
 #define LOAN PORTFOLIO "contract loan = both(scale(100.00, pay(EUR, A, B)), after(90, scale(105.00, pay(EUR, B, A))));\n"
 #define OPTION PORTFOLIO "num FX : 4 in 0.5000 .. 2.0000;\ncontract c = after(90, scale(round(half_even, 2, " \
                          "(max((obs(FX, 0) - 1.0000), 0.0000) * 100.00)), pay(EUR, A, B)));\n"
+#define REFUSED PORTFOLIO "contract loan = scale(100.005, pay(EUR, A, B));\n"
+/* Code of which eleven scenarios together may be worth more than the numbers of the program hold. */
+#define GREAT "payoff 1;\namounts 2;\nstart 0;\nparty A, B;\nasset EUR;\nnum FX : 4 in 0.5000 .. 2.0000;\n" \
+              "code c = scale(1000000000000000000000000.00, cut(0, pay(0, EUR, A, B)));\n"
+#define IN(name) name ",FX,0,1.0000\n"
+#define TEN IN("a") IN("b") IN("c") IN("d") IN("e") IN("f") IN("g") IN("h") IN("i") IN("j")
+#define PLANS "schedules 1;\namounts 2;\nparty A, B;\nasset EUR;\nleg rent = 25.00 of EUR from A to B first 0 every 30 times 4;\n"
 #define FLOWS "loan,0,A,B,EUR,100.00\nloan,90,B,A,EUR,105.00\n"
 #define COUNT(array) (sizeof(array) / sizeof *(array))
 
@@ -21,11 +28,22 @@ static void judge(int good, const char *what) {
   else failed++, printf("%s\n", what);
 }
 
+/* A byte more than a file may have. */
+static const uint8_t LONG[(1 << 24) + 1];
+
 static const struct tilugba_file FILES[] = {
     {TILUGBA_TEXT("other"), TILUGBA_TEXT("portfolio 9;")},
     {TILUGBA_TEXT("loan.txt"), TILUGBA_TEXT(LOAN)},
     {TILUGBA_TEXT("loan.txt"), TILUGBA_TEXT("the second of the name does not count")},
     {TILUGBA_TEXT("bad.txt"), TILUGBA_TEXT("portfolio 1;\namounts 2\nparty A;\n")},
+    {TILUGBA_TEXT("refused.txt"), TILUGBA_TEXT(REFUSED)},
+    {TILUGBA_TEXT("plans.txt"), TILUGBA_TEXT(PLANS)},
+    {TILUGBA_TEXT("long.txt"), {LONG, sizeof LONG}},
+    {TILUGBA_TEXT("great.code"), TILUGBA_TEXT(GREAT)},
+    {TILUGBA_TEXT("ten.csv"), TILUGBA_TEXT("scenario,label,day,value\n" TEN)},
+    {TILUGBA_TEXT("eleven.csv"), TILUGBA_TEXT("scenario,label,day,value\n" TEN IN("k"))},
+    {TILUGBA_TEXT("curve.csv"), TILUGBA_TEXT("offset,factor\n0,1\n")},
+    {TILUGBA_TEXT("bad.csv"), TILUGBA_TEXT("label,day,value\nFX,90,1.2345\nGX,90,1.2345\n")},
     {TILUGBA_TEXT("option.txt"), TILUGBA_TEXT(OPTION)},
     {TILUGBA_TEXT("fixings.csv"), TILUGBA_TEXT("label,day,value\nFX,90,1.2345\n")},
     {TILUGBA_TEXT("none.csv"), TILUGBA_TEXT("label,day,value\n")},
@@ -71,17 +89,25 @@ static void gives(const char *what, const struct tilugba_bytes *words, size_t co
 
 #define WORDS(...) (const struct tilugba_bytes[]){__VA_ARGS__}, COUNT(((const struct tilugba_bytes[]){__VA_ARGS__}))
 #define T(literal) TILUGBA_TEXT(literal)
+#define VALUED T("great.code"), T("none.csv"), T("curve.csv"), T("--at=0"), T("--from=A"), T("--to=B"), T("--asset=EUR")
+#define OVER(set) T("great.code"), T(set), T("curve.csv"), T("--at=0"), T("--from=A"), T("--to=B"), T("--asset=EUR"), T("--mean=floor")
 
 static void each_end(void) {
   gives("flows", WORDS(T("flows"), T("loan.txt")), 0, FLOWS);
   gives("an empty name", WORDS(T("flows"), T("")), 0, FLOWS);
   gives("check", WORDS(T("check"), T("loan.txt")), 0, "loan accepted start 0 scale 2 total 205.00 horizon 91\n");
+  gives("a refused contract", WORDS(T("flows"), T("refused.txt")), 1, "fault refused loan scale node 0\n");
   gives("no command", WORDS(T("flaws"), T("loan.txt")), 2, "fault usage\n");
   gives("a file that is not lent", WORDS(T("flows"), T("loan")), 3, "fault read 1\n");
+  gives("a file that is too long", WORDS(T("check"), T("long.txt")), 5, "fault too long 1\n");
   gives("a text that does not parse", WORDS(T("check"), T("bad.txt")), 6, "fault text syntax line 3 column 1\n");
   gives("an empty text", WORDS(T("check"), T("empty")), 6, "fault text syntax line 1 column 1\n");
+  gives("a row that is not taken", WORDS(T("flows"), T("option.txt"), T("bad.csv")), 7, "fault row file 2 record 3 label\n");
   gives("a fixing that is missing", WORDS(T("flows"), T("option.txt")), 8, "fault missing FX 90\n");
   gives("a fixing", WORDS(T("flows"), T("option.txt"), T("fixings.csv")), 0, "c,90,A,B,EUR,23.45\n");
+  gives("a name that nothing has", WORDS(T("flows"), T("loan.txt"), T("--contract=other")), 10, "fault unknown other\n");
+  gives("a day out of range", WORDS(T("flows"), T("loan.txt"), T("--until=2000000")), 11, "fault day 2000000\n");
+  gives("too many scenarios", WORDS(T("scenarios"), OVER("eleven.csv")), 12, "fault scenarios 11\n");
   gives("a word that is not UTF-8", WORDS(T("flows"), T("\xff")), 13, "");
   gives("the first word is not UTF-8", WORDS(T("\xc3"), T("loan.txt")), 13, "");
   gives("a word too many that is not UTF-8", WORDS(T("flows"), T("loan.txt"), T("a"), T("b"), T("\xed\xa0\x80")), 13, "");
@@ -144,6 +170,9 @@ static void refuse_all(void) {
   refuse_each(WORDS(T("payoff"), T("option.txt"), T("--contract=c")), 0);
   refuse_each(WORDS(T("migrate"), T("loan.txt")), 0);
   refuse_each(WORDS(T("check"), T("bad.txt")), 6);
+  refuse_each(WORDS(T("expand"), T("plans.txt")), 0);
+  refuse_each(WORDS(T("value"), VALUED), 0);
+  refuse_each(WORDS(T("scenarios"), OVER("ten.csv")), 0);
   refuse_each(WORDS(T("sample"), T("1")), 0);
 }
 #else

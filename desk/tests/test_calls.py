@@ -171,6 +171,10 @@ class Behaviour:
         self.assertEqual(self.parts(tilugba.MissingFixing, lacks, *missing), (8, "FX", 2, datetime.date(2026, 1, 7), "up"))
         self.assertEqual(self.parts(tilugba.UnknownName, lambda: desk.flows(LOAN, contract="other"), "name"), (10, "other"))
         self.assertEqual(self.parts(tilugba.DayOutOfRange, lambda: desk.flows(LOAN, until=2_000_000), "word"), (11, "2000000"))
+        great = HEAD + "contract c = scale(1000000000000000000000000.00, pay(EUR, A, B));\n"
+        code, table = desk.payoff(great, contract="c"), [(f"s{number}", "FX", 0, 1) for number in range(11)]
+        many = lambda: desk.scenarios(code, table, CURVE, **ASKED, mean="floor")
+        self.assertEqual(self.parts(tilugba.TooManyScenarios, many, "count"), (12, 11))
         self.assertEqual(self.parts(tilugba.NotUtf8, lambda: desk.flows(LOAN, contract="\udcff")), (13,))
 
     def test_classes_are_also_those_of_python(self) -> None:
