@@ -7,14 +7,13 @@ libtilugba.made beside them says what they were made of: the checksums of the te
 from __future__ import annotations
 
 import contextlib
-import re
 import shutil
 import subprocess
 import tempfile
 from collections.abc import Iterable, Iterator
 from pathlib import Path
 
-from . import kept
+from . import constants, kept
 from .compiling import Compiling, must_run, run, telling
 from .sources import Sources, Stop, say, sum_of
 from .toolchain import Toolchain
@@ -24,7 +23,10 @@ EXPORTS = {"tilugba_abi", "tilugba_run"}
 IMPORTS = {"free", "malloc", "memcpy", "memmove", "memset", "realloc"}
 FILES = ("libtilugba.a", "libtilugba.so")
 MADE = "libtilugba.made"
-TOOLS = ("ar", "gcc", "ld", "nm", "objcopy", "readelf")
+TOOLS = ("ar", "gcc", "ld", "nm", "objcopy", "objdump", "readelf")
+# The three functions of the toolchain have a byte: what is told as the place of refused memory, and
+# which nobody reads or writes. It takes as many as an address.
+LEFT_OPEN = 8
 # A static library has no main function, and `rt try` takes no crate without one: this one reaches both exports.
 MAIN = """
 fn main(rt: HostRuntime) {
@@ -36,7 +38,6 @@ VERSIONS = "{ global: tilugba_*; local: *; };\n"
 # No start files: the library has nothing to begin and nothing to end.
 SHARED = """-shared -nostartfiles -s -Wl,-soname,libtilugba.so -Wl,--version-script=exports.map -Wl,--gc-sections
 -Wl,-z,relro,-z,now,-z,noexecstack,--no-undefined""".split()
-SECTION = re.compile(r"^ *\[ *\d+\] (\S+) +\w+ +[0-9a-f]+ +[0-9a-f]+ ([0-9a-f]+) +\d+ +([A-Za-z]*) ", re.M)
 
 
 class CompilingLibrary(Compiling):
@@ -76,7 +77,10 @@ def build(tools: Toolchain, repository: Path, outs: dict[str, Path], *, only_kep
     texts = Sources(repository, CRATE).sum()
     with over_proved(tools, repository, only_kept) as top:
         for backend, out in outs.items():
-            put(tools, archive_by(backend, top), out, f"proved, and compiled by {backend}", texts)
+            with tempfile.TemporaryDirectory(prefix="tilugba-") as room:
+                archive = archive_by(backend, top)
+                objects = constants.closed(archive, Path(room)) if backend == "rattle" else archive
+                put(tools, objects, out, f"proved, and compiled by {backend}", texts)
     refuse_if_changed(repository, texts)
 
 
@@ -158,6 +162,8 @@ def link(kit: Path, objects: Path, room: Path) -> None:
     must_run(["ar", "rcsD", "libtilugba.a", "tilugba.o"], **here)
     (room / "exports.map").write_text(VERSIONS, encoding="ascii")
     must_run(["gcc", *SHARED, "-o", "libtilugba.so", "tilugba.o"], **here)
+    if constants.left_open(room / "libtilugba.so") > LEFT_OPEN:
+        raise Stop("the library can be written to once it is loaded: look at the sections of libtilugba.so behind GNU_RELRO")
     hold("imports", names(room / "libtilugba.so", "--undefined-only"), IMPORTS)
     hold("exports", names(room / "libtilugba.so", "--defined-only"), EXPORTS)
     hold("imports of the archive", names(room / "tilugba.o", "--undefined-only", dynamic=False), IMPORTS)
@@ -177,9 +183,10 @@ def hold(title: str, found: set[str], allowed: set[str]) -> None:
 
 
 def refuse_variables(file: Path) -> None:
-    """A section that can be written to holds a variable; what only the loader writes to is none. The toolchain's three functions, which
-    are not looked at here, have one byte: what is told as the place of refused memory, and which nobody reads or writes."""
-    said = subprocess.run(["readelf", "-SW", str(file)], capture_output=True, text=True, check=True).stdout
-    for name, size, flags in SECTION.findall(said):
-        if int(size, 16) and ("W" in flags or "T" in flags) and not name.startswith(".data.rel.ro"):
-            raise Stop(f"the library has variables, which threads would share: look at section {name}")
+    """A section that can be written to holds a variable; what only the loader writes to is none. The
+    toolchain's three functions are not looked at here."""
+    said = constants.said_by("readelf", "-SW", str(file))
+    for name, _, size, flags in constants.SECTION.findall(said):
+        is_open = "W" in flags or "T" in flags
+        if int(size, 16) and is_open and not name.startswith(constants.CLOSED):
+            raise Stop(f"{constants.SHARED}: look at section {name}")
