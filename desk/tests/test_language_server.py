@@ -9,9 +9,11 @@ import subprocess
 import sys
 import time
 import unittest
+from unittest import mock
 
 from tests.support import DESK, Room, the_program, slowness
 from tests.test_format import LAID, TEXT
+from tilugba import formatting
 from tilugba.editor.documents import Document
 from tilugba.editor.protocol import Connection
 from tilugba.editor.server import Server
@@ -177,6 +179,12 @@ class Places(Session):
         self.assertIn("what is after stands on 2026-02-04", self.hover("after("))
         self.assertEqual(self.asked(BOOK, "hover", 1, 0), None)
 
+    def test_a_declaration_with_a_comment_in_it(self) -> None:
+        text = BOOK.replace("party Desk, Bank;", "party Desk, # é; no end\n Bank;")
+        self.assertIn("`party Desk, Bank;`", self.asked(text, "hover", 3, 7)["contents"]["value"])
+        long = BOOK.replace("template T = 30;", f"template T = {'9' * 5_000};")
+        self.assertIsNone(self.asked(long, "hover", 7, 20))
+
     def test_definition_and_references(self) -> None:
         found = self.asked(BOOK, "definition", *self.spot("Bank", nth=2))
         self.assertEqual(found["range"]["start"], {"line": 3, "character": 12})
@@ -236,12 +244,22 @@ class Protocol(Session):
             ("textDocument/rename", {}, 2),
             ("textDocument/hover", {"textDocument": {"uri": "file:///else"}, "position": {}}, 3),
             ("textDocument/hover", {}, 4),
-            ("shutdown", {}, 5),
+            (["textDocument/hover"], {}, 5),
+            ("shutdown", {}, 6),
             ("exit", {}),
         )
         self.assertTrue(answers[0]["result"]["capabilities"]["hoverProvider"])
-        self.assertEqual([it["error"]["code"] for it in answers[1:4]], [-32601, -32602, -32602])
-        self.assertIsNone(answers[4]["result"])
+        self.assertEqual([it["error"]["code"] for it in answers[1:5]], [-32601, -32602, -32602, -32602])
+        self.assertIsNone(answers[5]["result"])
+
+    def test_a_request_that_fails_is_no_end_of_the_others(self) -> None:
+        params = {"textDocument": {"uri": URI}, "options": {}}
+        wrong = mock.patch.object(formatting, "formatted", side_effect=formatting.Changed("what"))
+        with wrong:
+            found = self.talk(self.opened(TEXT), ("textDocument/formatting", params, 1), ("shutdown", {}, 2))
+        answers = [it for it in found if "id" in it]
+        self.assertEqual(answers[0]["error"], {"code": -32603, "message": "Changed: what"})
+        self.assertIsNone(answers[1]["result"])
 
     def test_a_process(self) -> None:
         """The command on its streams: an answer, and the status of an orderly end; rubbish ends it without a traceback."""
@@ -249,6 +267,7 @@ class Protocol(Session):
         leave = json.dumps({"jsonrpc": "2.0", "method": "exit"}).encode()
         framed = b"".join(b"Content-Length: %d\r\n\r\n" % len(it) + it for it in (body, leave))
         rubbish = [b"", b"rubbish\n\n", b"Content-Length: 3\r\n\r\n{]}", b"Content-Length: 9\r\n\r\n[]"]
+        rubbish.append(b"Content-Length: 200000\r\n\r\n" + b"[" * 200_000)
         for data, status in [(framed, 0), *((it, 1) for it in rubbish)]:
             ran = subprocess.run([sys.executable, DESK / "tilugba-desk", "language-server"], input=data, capture_output=True)
             self.assertEqual((ran.returncode, ran.stderr), (status, b""))

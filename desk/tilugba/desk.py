@@ -59,7 +59,7 @@ class Desk:
         """Writes to standard output, whole, or ends the command with 4."""
         out = self.output or sys.stdout.buffer
         try:
-            out.writelines(part.encode() if isinstance(part, str) else part for part in parts)
+            out.writelines(encoded(part) if isinstance(part, str) else part for part in parts)
             out.flush()
         except OSError as error:
             give_up(out)
@@ -78,6 +78,11 @@ class Desk:
         """Says in one line why the subcommand ends."""
         told = message.replace("\n", " ")
         self.tell([f"{COMMAND} {self.name}: {told}" if self.name else f"{COMMAND}: {told}"])
+
+
+def encoded(text: str) -> bytes:
+    """The bytes of what is printed. The name of a file in it may be bytes that are not UTF-8."""
+    return text.encode("utf-8", "surrogateescape")
 
 
 def give_up(out: BinaryIO) -> None:

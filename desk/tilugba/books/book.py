@@ -132,8 +132,8 @@ def asked(program: Program, command: str, *words: str | File) -> bytes:
     answer = program.run(command, *given)
     if answer.status == Status.DONE:
         return answer.output
-    from ..explanations.explaining import Run, notes_of
+    from ..explanations.explaining import lines_of
 
     named = [command, *(it.name if isinstance(it, File) else it for it in words)]
-    run = Run(named, program, answer, {it.name: it.data for it in files})
-    raise Told(answer.status, [line for note in notes_of(run) for line in note.told()])
+    kept = {it.name: it.data for it in files}
+    raise Told(answer.status, lines_of(named, program, answer, kept))

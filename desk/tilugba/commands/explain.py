@@ -68,9 +68,9 @@ def with_receipt(path: Path, words: list[str], kept: dict[str, bytes], desk: Des
 
 def explained(words: list[str], desk: Desk, answer: Answer, kept: dict[str, bytes]) -> list[str]:
     """The lines of the explanations. What explains is loaded only for a fault."""
-    from ..explanations.explaining import Run, notes_of
+    from ..explanations.explaining import lines_of
 
-    return [line for note in notes_of(Run(words, desk.program, answer, kept)) for line in note.told()]
+    return lines_of(words, desk.program, answer, kept)
 
 
 def is_pipe(name: str) -> bool:

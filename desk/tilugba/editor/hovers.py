@@ -9,6 +9,7 @@ from ..program import Acceptance, Program, Status, Stop
 from ..texts import trees
 from ..texts.grammar import PORTFOLIO
 from ..texts.names import NameSet
+from ..texts.offers import whole_number
 from ..texts.reads import Days, placed
 from ..texts.tokens import NUMBER, tokens
 from ..texts.trees import Statement, Term
@@ -16,6 +17,9 @@ from . import navigation
 from .diagnostics import checked
 from .documents import Document
 from .protocol import Json
+
+# No number of days is greater.
+MOST_DAYS = 1_000_000
 
 
 def hover(document: Document, at: int, program: Program) -> Json | None:
@@ -39,9 +43,17 @@ def name_lines(document: Document, at: int) -> Iterator[str]:
     for base, statement in document.reading.statements():
         if any(it.name == name.text for it in statement.declared) and navigation.SETS.get(statement.word) is name.kind:
             if name.kind is not NameSet.CONTRACT:
-                end = document.reading.text.find(";", base) + 1
-                yield f"`{document.reading.text[navigation.start_of(document, base) : end]}`"
+                yield f"`{written(document, base)}`"
             return
+
+
+def written(document: Document, base: int) -> str:
+    """The tokens of a statement, as they are written but for comments, on one line."""
+    reading = document.reading
+    end = reading.segments[reading.segment_at(base)].end
+    found = [it for it in tokens(reading.text, base, end) if it.text]
+    blanks = (" " if one.end < other.at else "" for one, other in zip(found, found[1:]))
+    return "".join(it.text + blank for it, blank in zip(found, [*blanks, ""]))
 
 
 def calendar_of(document: Document) -> Calendar:
@@ -52,9 +64,12 @@ def number_lines(document: Document, base: int, statement: Statement, at: int) -
     """The date of a number of days in a declaration."""
     start = document.reading.declared.start
     for token in tokens(document.reading.text, base, document.reading.segments[document.reading.segment_at(at)].end):
-        if token.kind == NUMBER and token.at <= at <= token.end and statement.word in ("start", "template") and token.text.isdigit():
-            day = int(token.text) if statement.word == "start" else start + int(token.text)
-            yield f"{calendar_of(document).told(day)}" + ("" if statement.word == "start" else ", counted from the start")
+        is_here = token.kind == NUMBER and token.at <= at <= token.end and token.text.isdigit()
+        days = whole_number(token.text, MOST_DAYS) if is_here else None
+        if days is not None and statement.word == "start":
+            yield calendar_of(document).told(days)
+        elif days is not None and statement.word == "template":
+            yield f"{calendar_of(document).told(start + days)}, counted from the start"
 
 
 def node_lines(document: Document, base: int, root: Term, at: int) -> Iterator[str]:

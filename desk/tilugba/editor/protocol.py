@@ -6,7 +6,7 @@ import json
 from dataclasses import dataclass
 from typing import Any, BinaryIO
 
-METHOD_NOT_FOUND, INVALID_PARAMS, INTERNAL_ERROR, NOT_READY = -32601, -32602, -32603, -32002
+METHOD_NOT_FOUND, INVALID_PARAMS, INTERNAL_ERROR = -32601, -32602, -32603
 GREATEST_MESSAGE = 1 << 28
 Json = dict[str, Any]
 
@@ -37,7 +37,7 @@ class Connection:
             return None
         try:
             message = json.loads(data)
-        except ValueError:
+        except (ValueError, RecursionError):
             return {}
         return message if isinstance(message, dict) else {}
 

@@ -61,8 +61,8 @@ class Server:
     def take(self, message: Json) -> None:
         """Handles a message. A request gets one answer, also if something goes wrong."""
         method, number = message.get("method"), message.get("id")
-        handler = HANDLERS.get(method or "")
         try:
+            handler = HANDLERS.get(method or "")
             if handler is None:
                 raise Refusal(METHOD_NOT_FOUND, f"there is no method {method}")
             result = handler(self, message.get("params") or {})
@@ -72,6 +72,10 @@ class Server:
             error = {"code": INVALID_PARAMS, "message": f"{method}: {type(mistake).__name__}: {mistake}"}
         except Stop as stop:
             error = {"code": INTERNAL_ERROR, "message": stop.message}
+        except OSError:  # the editor is gone
+            raise
+        except Exception as mistake:  # one request that is not answered is no end of the others
+            error = {"code": INTERNAL_ERROR, "message": f"{type(mistake).__name__}: {mistake}"}
         else:
             if number is not None:
                 self.connection.write({"id": number, "result": result})

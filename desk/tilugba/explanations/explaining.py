@@ -117,9 +117,18 @@ def notes_of(run: Run) -> Iterator[Note]:
             yield Note("tilugba", fault.message)
 
 
+def lines_of(
+    words: Sequence[str], program: Program, answer: Answer, kept: dict[str, bytes]
+) -> list[str]:
+    """The lines of the explanation of a run on files of which the bytes are kept."""
+    return [line for note in notes_of(Run(words, program, answer, kept)) for line in note.told()]
+
+
 def tell_fault(desk: Desk, words: Sequence[str], answer: Answer, kept: dict[str, bytes]) -> int:
-    """Tells the fault of a run of a subcommand on standard error, as `explain` does, and returns its status."""
-    desk.tell(line for note in notes_of(Run(words, desk.program, answer, kept)) for line in note.told())
+    """Tells the fault of a run of a subcommand on standard error, as `explain` does, and returns its
+    status.
+    """
+    desk.tell(lines_of(words, desk.program, answer, kept))
     return answer.status
 
 
