@@ -2,13 +2,12 @@
 
 from __future__ import annotations
 
-import os
 import random
 import re
 import tempfile
 import unittest
 from concurrent.futures import ProcessPoolExecutor
-from functools import partial
+from itertools import chain
 from pathlib import Path
 
 from tests.support import Room
@@ -46,7 +45,7 @@ def compared(data: bytes, grammar: Grammar, judge: Judge) -> tuple[str, str]:
         return fault.kind if fault else "none", ""
     before, line = data[: fault.at] + b"\n", reading.source.place(fault.at).line + 1
     for written in candidates(reading):
-        found = judge.fault(before + written.encode(), grammar)
+        found = judge.fault_with(before, written, grammar)
         stands = found is None or found.place != Place(line, 1)
         if stands != fault.offers.have(token_of(written)):
             raise AssertionError(f"{written!r} {'may' if stands else 'may not'} stand at the end of {before!r}, but {fault.offers}")
@@ -61,12 +60,11 @@ def bad_origins() -> list[tuple[Example, bytes]]:
     return [(it, origin.sub(dates[number % 3], it.data)) for number, it in enumerate(found)]
 
 
-def compare_some(part: int, parts: int) -> list[tuple[str, str]]:
-    """Compares a part of the edits."""
-    edits = [*some_edits(1, EDITS), *bad_origins()]
+def compare_some(number: int, texts: list[bytes]) -> list[tuple[str, str]]:
+    """Compares the edits of an example, which often have the same before the fault."""
     with tempfile.TemporaryDirectory() as folder:
         judge = Judge(Path(folder))
-        return [compared(data, example.grammar, judge) for example, data in edits[part::parts]]
+        return [compared(text, examples()[number].grammar, judge) for text in texts]
 
 
 class BesideTheProgram(Room):
@@ -79,9 +77,12 @@ class BesideTheProgram(Room):
                 self.assertEqual(told(reading, reading.fault), judge.fault(example.data, example.grammar))
 
     def test_random_edits(self) -> None:
-        parts = os.cpu_count() or 1
-        with ProcessPoolExecutor(parts) as pool:
-            found = [it for some in pool.map(partial(compare_some, parts=parts), range(parts)) for it in some]
+        edits: dict[str, list[bytes]] = {it.name: [] for it in examples()}
+        for example, text in [*some_edits(1, EDITS), *bad_origins()]:
+            edits[example.name].append(text)
+        with ProcessPoolExecutor() as pool:
+            some = pool.map(compare_some, range(len(edits)), edits.values())
+            found = list(chain.from_iterable(some))
         self.assertGreater(len(found), EDITS)
         self.assertEqual({kind for kind, _ in found}, KINDS)
         self.assertGreater(len({place for _, place in found}), 150)

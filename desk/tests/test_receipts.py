@@ -314,6 +314,13 @@ class Others(Receipts):
         self.assertEqual((ran.status, ran.output), (4, ""))
         self.assertIn("none/r.jsonl was not written: No such file", ran.errors)
 
+    def test_a_file_with_something_else_stays(self) -> None:
+        book = self.file("0.txt", "portfolio 4;").read_bytes()
+        ran = run_desk("explain", "--receipt", "0.txt", "check", "0.txt")
+        self.assertEqual((ran.status, ran.output), (4, ""))
+        self.assertIn("0.txt is there, and is no file of receipts", ran.errors)
+        self.assertEqual(Path("0.txt").read_bytes(), book)
+
 
 class Sums(unittest.TestCase):
     def test_nothing_is_as_nothing(self) -> None:

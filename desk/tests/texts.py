@@ -37,7 +37,9 @@ class Told:
 
 
 class Judge:
-    """Asks the program for the fault of a text, many times a second: the text goes into one file, and the answer into another."""
+    """Asks the program for the fault of a text, many times a second: the text goes into one file, and
+    the answer into another.
+    """
 
     def __init__(self, folder: Path) -> None:
         self.program = os.fspath(the_program().path)
@@ -50,6 +52,8 @@ class Judge:
             CODE: ["value", str(self.text), str(empty), str(curve), *OTHER_NAMES],
             SCHEDULES: ["expand", str(self.text)],
         }
+        # What was asked of the ends of a text, by the text before them.
+        self.asked: dict[tuple[str, bytes], dict[str, Told | None]] = {}
 
     def fault(self, text: bytes, grammar: Grammar) -> Told | None:
         self.text.write_bytes(text)
@@ -62,6 +66,15 @@ class Judge:
             return None
         found = FAULT.fullmatch(os.pread(self.out, 200, 0))
         return Told(found[1].decode(), Place(int(found[2]), int(found[3])))
+
+    def fault_with(self, before: bytes, end: str, grammar: Grammar) -> Told | None:
+        """The fault of a text with an end. Many edits leave the same before their fault, so each is
+        asked once.
+        """
+        known = self.asked.setdefault((grammar.name, before), {})
+        if end not in known:
+            known[end] = self.fault(before + end.encode(), grammar)
+        return known[end]
 
 
 @dataclass(frozen=True)

@@ -21,6 +21,8 @@ from .program import NAME, Status, Stop, reason_of
 FORM = 1
 PROGRAM, DESK = NAME, "tilugba-desk"
 PACKAGE = Path(__file__).resolve().parent
+# What each line begins with.
+BEGINNING = b'{"by": "'
 
 
 @dataclass(frozen=True)
@@ -102,12 +104,25 @@ def sum_of_desk() -> str:
 
 
 def add(path: Path, receipt: Receipt) -> None:
-    """Adds a receipt to a file, behind those that it has."""
+    """Adds a receipt to a file, behind those that it has. A file with something else stays as it is."""
+    if has_no_receipts(path):
+        raise Stop(Status.NOT_WRITTEN, f"{path} is there, and is no file of receipts")
     try:
         with open(path, "ab") as file:
             file.write(receipt.line.encode())
     except (OSError, ValueError) as error:
         raise Stop(Status.NOT_WRITTEN, f"{path} was not written: {reason_of(error)}") from error
+
+
+def has_no_receipts(path: Path) -> bool:
+    """Whether a file begins with something else than a receipt."""
+    if not path.is_file():
+        return False
+    try:
+        with open(path, "rb") as file:
+            return file.read(len(BEGINNING)) not in (b"", BEGINNING)
+    except OSError:
+        return False  # it may perhaps be written, though not read
 
 
 def receipts_in(path: Path, data: bytes) -> Iterator[Receipt]:
