@@ -4,12 +4,12 @@ import { Form, ROLES } from "./form.js";
 import { button, by, state } from "./state.js";
 import { put } from "./texts.js";
 
-// What chooses a question, and what asks it.
+// What chooses a question, and what takes an example and asks it.
 let ask = null;
 
-// Fills the list of examples. `choose` takes a command and its options, and `run` asks.
-export function fillRecipes(choose, run) {
-  ask = { choose, run };
+// Fills the list of examples. `choose` takes a command and its options, and `take` what loads one.
+export function fillRecipes(choose, take) {
+  ask = { choose, take };
   for (const [at, { page, sections }] of state.data.recipes.pages.entries()) {
     const group = Object.assign(document.createElement("optgroup"), { label: page });
     for (const it of Object.keys(sections)) group.append(new Option(it, JSON.stringify([at, it])));
@@ -56,10 +56,14 @@ export async function loadRun(page, number) {
   const texts = await textsOf(page, number);
   const { commands } = state.data;
   const { files, values } = Form.valuesOf(commands, words);
+  await ask.take(() => putRun({ words, files, values, texts }));
+}
+
+function putRun({ words, files, values, texts }) {
+  const { commands } = state.data;
   const roles = state.form.rolesOf(commands.command.find((it) => it.name === words[0]));
   for (const it of roles) if (ROLES[it].isTable) put(it, ROLES[it].header);
   for (const [at, name] of files.entries()) put(roles[at], texts[name] ?? "");
   state.form.values = {};
   ask.choose(words[0], values);
-  await ask.run();
 }

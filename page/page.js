@@ -54,14 +54,18 @@ function current() {
   return { command: state.form.name, values: state.form.values, texts };
 }
 
-// The case of a link is not kept before it is changed: what was typed before would be lost by it.
-let ofLink = "";
+// The case of a link, or an example, as it was taken. It is not kept before it is changed: what was
+// typed before would be lost by it.
+let untouched = "";
+
+// Whether a text that was typed is set aside for an example.
+let hasAside = false;
 
 function keepAll() {
   const isHeld = Object.values(state.editors).some((it) => it.held);
   const now = current();
-  if (ofLink && JSON.stringify(now) === ofLink) return;
-  ofLink = "";
+  if (untouched && JSON.stringify(now) === untouched) return;
+  untouched = "";
   if (Object.keys(ROLES).every(isEmpty)) return keeping.keepNone();
   const fault = keeping.keep(now);
   if (fault) say(fault, true);
@@ -165,10 +169,10 @@ async function begin() {
     const linked = await keeping.caseOf(location.hash);
     if (linked) {
       takeCase(linked);
-      ofLink = JSON.stringify(current());
+      untouched = JSON.stringify(current());
       if (before) keeping.setAside(before);
       await run();
-      return tellOfLink(before);
+      return tellOf("This is the case of the link. Its answer is below.", before);
     }
     if (before) {
       takeCase(before);
@@ -187,15 +191,27 @@ async function begin() {
   if (isFault) say(told, true);
 }
 
-// Says that the case is a link's, unless a run of it says what is missing.
-function tellOfLink(before) {
+// Says what case it is, unless its run says what is missing; with a button for what was set aside.
+function tellOf(said, isAside) {
   if (by("message").textContent) return;
-  say("This is the case of the link. ");
-  if (before) by("message").append(button("Bring back what I had", bringBack));
+  say(isAside ? `${said} ` : said);
+  if (isAside) by("message").append(button("Bring back what I had", bringBack));
+}
+
+// Takes an example, by `load`. What a user has typed is set aside.
+async function takeExample(load) {
+  const now = current();
+  const isOwn = JSON.stringify(now) !== untouched && !Object.keys(ROLES).every(isEmpty);
+  if (isOwn) hasAside = !keeping.setAside(now);
+  await load();
+  untouched = JSON.stringify(current());
+  await run();
+  if (hasAside) tellOf("This is an example.", true);
 }
 
 function bringBack() {
   const before = keeping.aside();
+  hasAside = false;
   if (before) takeCase(before);
   history.replaceState(null, "", location.pathname);
   say("What you had is here again.");
@@ -205,6 +221,7 @@ function forget() {
   clearTimeout(keepingSoon);
   for (const [role, it] of Object.entries(state.editors)) it.take(ROLES[role].header ?? "");
   keeping.forget();
+  hasAside = false;
   history.replaceState(null, "", location.pathname);
   state.answer = null;
   by("asked").textContent = "";
@@ -297,7 +314,7 @@ async function start() {
     defineModes(state.data.language);
     makeEditors(changed, offerAtCursor);
     fillForm();
-    fillRecipes(choose, run);
+    fillRecipes(choose, takeExample);
     showMade();
     listen();
     choose("check");

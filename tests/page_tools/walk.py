@@ -465,9 +465,19 @@ class Walk:
         first = "return by('text').textContent.startsWith('first')"
         self.comes(lambda: self.do(first), "a link that is followed within the page")
         self.do("document.querySelector('#message button').click()")
+        self.has_own("two links")
+        self.do("by('recipe').selectedIndex = 1; by('recipe').dispatchEvent(new Event('change'))")
+        self.settle_runs(0)
+        self.answer()
+        back = "return document.querySelector('#message button')"
+        self.browser.wait(lambda: self.do(back), "nothing is brought back after an example")
+        self.do("document.querySelector('#message button').click()")
+        self.has_own("two examples")
+
+    def has_own(self, what: str) -> None:
         text = self.do("return ed('portfolio').getValue() + ed('fixings').getValue()")
         holds = "contract own" in str(text) and "FX,5,1.00" in str(text)
-        self.judge(holds, f"after two links and Bring back there is {text}")
+        self.judge(holds, f"after {what} and Bring back there is {text}")
 
     def old_answer(self) -> None:
         """An answer whose question has changed since is said to be an old one."""
