@@ -7,17 +7,19 @@ Which of its lines change, and what it may have, is in `retarget`.
 """
 from __future__ import annotations
 
+import contextlib
 import os
 import re
 import shutil
 import subprocess
 import sys
+from collections.abc import Iterator
 from pathlib import Path
 
 from . import library, retarget, wasm
 from .compiling import AS_TEXT, hints, must_run, run, without_checks
 from .retarget import AARCH64, OPTIONS, WASM64, Target
-from .sources import Stop
+from .sources import Sources, Stop
 from .toolchain import Toolchain
 
 TOP = Path(__file__).resolve().parents[2]
@@ -29,6 +31,8 @@ EXPORTS = {"memory", "page_free", "page_take", "tilugba_run"}
 OF_LINKER = {"__heap_base"}
 FEATURES = """--enable-memory64 --enable-bulk-memory --enable-multivalue --enable-sign-ext
 --enable-nontrapping-float-to-int --enable-mutable-globals""".split()
+# What the toolchain says of a crate that it has proved.
+PROVED = "logic=proved "
 # A compiler that keeps the module, and then goes on with the toolchain's own.
 KEEPER = """#!/bin/sh
 [ ! -f module.bc ] || cp module.bc "{room}/module.bc"
@@ -46,6 +50,8 @@ class Elsewhere:
 
     def __init__(self, tools: Toolchain, repository: Path, room: Path):
         self.tools, self.repository, self.room = tools, repository, room
+        # Where the libraries below the crate are proved, once they are.
+        self.proved: Path | None = None
         self.kit = tools.kit
         self.clang = str(self.kit / "toolchain/bin/clang")
         self.module = room / "plain.ll"
@@ -65,26 +71,41 @@ class Elsewhere:
             with open(self.module, "w", encoding="utf-8") as plain:
                 plain.writelines(making.edited(without_checks(checked, found)))
 
+    @contextlib.contextmanager
+    def over_proved(self, only_kept: bool) -> Iterator[None]:
+        """Has the crate proved, over libraries that the gate has kept if they are all there, for as
+        long as something is made of it. Raises NotKept if only those may be taken, and are not."""
+        texts = Sources(self.repository, library.CRATE).sum()
+        with library.over_proved(self.tools, self.repository, only_kept) as top:
+            library.archive_by("llvm", top)
+            self.proved = top
+            yield
+        library.refuse_if_changed(self.repository, texts)
+
     def keep_proved(self) -> None:
-        """Has the crate proved, and leaves the module that is compiled of it."""
-        library.prove(self.repository, "llvm")
-        words = [*self.words_of_build(self.tools_that_keep()), "-o", str(self.room / "proved.a")]
-        done = run(words, cwd=self.repository / "crates" / library.CRATE)
-        if done.returncode or not (self.room / "module.bc").is_file():
-            raise Stop(f"the toolchain does not build {library.CRATE} once more: {last(done)}")
+        """Leaves the module that is compiled of the proved crate."""
+        self.build(self.tools_that_keep(), "proved.a")
+        if not (self.room / "module.bc").is_file():
+            raise Stop(f"the toolchain builds {library.CRATE} without a module that can be kept")
         as_text = [it if it != "checked.ll" else self.module.name for it in AS_TEXT]
         self.must_run([self.clang, *as_text])
 
-    def words_of_build(self, tools: Path, *more: str) -> list[str]:
-        """As `rt lib` has the crate built, behind its proof, with other tools."""
+    def build(self, tools: Path, archive: str, *more: str) -> None:
+        """Has the crate built once more, as `rt lib` has it built behind its proof, but with tools of
+        one's own or for another processor."""
+        top = self.proved
+        assert top is not None
         sys.path.insert(0, str(self.kit / "bin"))
         import rtlib
 
-        crates = rtlib.crates_below(str(self.repository))
-        crate = next(it for it in crates if it.name == library.CRATE)
-        crate.out = open(os.devnull, "w", encoding="utf-8")
-        words = [rtlib.RATTLE, "build", *crate.words(list(more)), "--toolchain", str(tools)]
-        return [*words, "--backend", "llvm", *rtlib.KEPT]
+        with open(os.devnull, "w", encoding="utf-8") as nothing:
+            crate = next(it for it in rtlib.crates_below(str(top)) if it.name == library.CRATE)
+            crate.out = nothing
+            words = [rtlib.RATTLE, "build", *crate.words(list(more)), "--toolchain", str(tools)]
+        words += ["--backend", "llvm", *rtlib.KEPT, "-o", str(self.room / archive)]
+        done = run(words, cwd=top / "crates" / library.CRATE)
+        if done.returncode or PROVED not in done.stdout:
+            raise Stop(f"the toolchain does not build {library.CRATE} once more: {last(done)}")
 
     def tools_that_keep(self) -> Path:
         """The folder of the toolchain's tools, with links to all but the compiler."""
@@ -142,12 +163,7 @@ class Elsewhere:
         the toolchain itself, which holds that code to checks of its own."""
         if not is_proved:
             return self.compile_for(AARCH64, "aarch64").name
-        target = ["--target", AARCH64.triple]
-        words = self.words_of_build(self.kit / "toolchain", *target)
-        crate = self.repository / "crates" / library.CRATE
-        done = run([*words, "-o", str(self.room / "aarch64.a")], cwd=crate)
-        if done.returncode:
-            raise Stop(f"the toolchain does not build {library.CRATE} for aarch64: {last(done)}")
+        self.build(self.kit / "toolchain", "aarch64.a", "--target", AARCH64.triple)
         return "aarch64.a"
 
     def aarch64(self, is_proved: bool) -> tuple[Path, Path]:

@@ -4,6 +4,7 @@ faults, the recipes, and what it was made of.
 """
 from __future__ import annotations
 
+import contextlib
 import hashlib
 import json
 import re
@@ -251,12 +252,13 @@ def put(file: Path, to: Path, mode: int = 0o644) -> None:
 class Wanted:
     """What is to be made: the page's folder, and perhaps a file for its module with addresses of
     64 bits, and a folder for the library and the program of aarch64. With `is_proved` it is made of
-    the proved crate."""
+    the proved crate, and with `only_kept` over what the gate has kept alone."""
 
     out: Path
     is_proved: bool
     wide: Path | None = None
     aarch64: Path | None = None
+    only_kept: bool = False
 
 
 def look_at_tools() -> None:
@@ -274,7 +276,10 @@ def build(tools: Toolchain, top: Path, wanted: Wanted) -> None:
     refuse_other(wanted.out)
     with tempfile.TemporaryDirectory(prefix="tilugba-") as place:
         making = Elsewhere(tools, top, Path(place))
-        with telling():
+        over = contextlib.nullcontext()
+        if wanted.is_proved:
+            over = making.over_proved(wanted.only_kept)
+        with over, telling():
             (making.keep_proved if wanted.is_proved else making.keep_unproved)()
             wide, small = making.webassembly()
             made = making.aarch64(wanted.is_proved) if wanted.aarch64 else None
