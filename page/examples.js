@@ -62,7 +62,8 @@ export async function loadRun(page, number) {
 function putRun({ words, files, values, texts }) {
   const { commands } = state.data;
   const roles = state.form.rolesOf(commands.command.find((it) => it.name === words[0]));
-  for (const it of roles) if (ROLES[it].isTable) put(it, ROLES[it].header);
+  // The tables of another example are not this one's.
+  for (const [role, { isTable, header }] of Object.entries(ROLES)) if (isTable) put(role, header);
   for (const [at, name] of files.entries()) put(roles[at], texts[name] ?? "");
   state.form.values = {};
   ask.choose(words[0], values);

@@ -70,6 +70,7 @@ function keepAll() {
   const fault = keeping.keep(now);
   if (fault) say(fault, true);
   else if (isHeld) say("The file that is held is not kept in the browser when the page is closed.");
+  else if (by("message").textContent.startsWith("Forgotten")) say("");
 }
 
 function fillForm() {
