@@ -73,11 +73,12 @@ class Elsewhere:
 
     @contextlib.contextmanager
     def over_proved(self, only_kept: bool) -> Iterator[None]:
-        """Has the crate proved, over libraries that the gate has kept if they are all there, for as
-        long as something is made of it. Raises NotKept if only those may be taken, and are not."""
+        """Has all libraries below the crate proved, or takes those that the gate has kept, for as long
+        as something is made over them. Raises NotKept if only those may be taken, and are not."""
         texts = Sources(self.repository, library.CRATE).sum()
         with library.over_proved(self.tools, self.repository, only_kept) as top:
-            library.archive_by("llvm", top)
+            if top == self.repository:
+                library.archive_by("llvm", top)
             self.proved = top
             yield
         library.refuse_if_changed(self.repository, texts)
@@ -91,8 +92,8 @@ class Elsewhere:
         self.must_run([self.clang, *as_text])
 
     def build(self, tools: Path, archive: str, *more: str) -> None:
-        """Has the crate built once more, as `rt lib` has it built behind its proof, but with tools of
-        one's own or for another processor."""
+        """Has the crate proved and built, as `rt lib` has it, but with tools of one's own or for another
+        processor."""
         top = self.proved
         assert top is not None
         sys.path.insert(0, str(self.kit / "bin"))
@@ -105,7 +106,7 @@ class Elsewhere:
         words += ["--backend", "llvm", *rtlib.KEPT, "-o", str(self.room / archive)]
         done = run(words, cwd=top / "crates" / library.CRATE)
         if done.returncode or PROVED not in done.stdout:
-            raise Stop(f"the toolchain does not build {library.CRATE} once more: {last(done)}")
+            raise Stop(f"the toolchain does not prove and build {library.CRATE}: {last(done)}")
 
     def tools_that_keep(self) -> Path:
         """The folder of the toolchain's tools, with links to all but the compiler."""
