@@ -58,7 +58,7 @@ export class Form {
     this.place = place;
     this.textOf = textOf;
     this.values = {};
-    // What a link or an example gave, which stays though the text has no such name, until it changes.
+    // What a link or an example gave: it stays though the text has no such name, until it changes.
     this.given = {};
     this.name = "";
     place.addEventListener("input", () => {

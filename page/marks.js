@@ -91,7 +91,7 @@ async function offersAt(editor, place) {
   if (found && editor.contents === contents) showOffers({ editor, place, found });
 }
 
-// The worker chooses what is tried behind the text: of a long one that takes longer than a key does.
+// The worker chooses what is tried behind the text: of a long one that takes longer than a key.
 async function askOffers(editor, text) {
   const words = wordsToParse(editor.role);
   const name = ROLES[editor.role].file;

@@ -150,7 +150,7 @@ async function copyLink() {
 
 const commandOf = (name) => state.data.commands.command.find((it) => it.name === name);
 
-// Takes a case. A text of its question that it does not have is empty: what stood there is another's.
+// Takes a case. A text of its question that it does not have is empty: what stood there is not its.
 function takeCase({ command, values, texts }) {
   const about = commandOf(command);
   if (!about) throw new Error("The link names no command of this page.");

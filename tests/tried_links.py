@@ -25,10 +25,17 @@ BLOCK = re.compile(
 LINK = re.compile(r'<a href="([^"]*)"(?: title="([^"]*), in the browser")?>(.*?)</a>')
 # A run with nothing behind it but a word of its status.
 PLAIN = re.compile(r"\./tilugba ((?:[^|;&<>$`(){}*\n\\]|\\\n)+)(; echo .*)?\n?")
-HEADERS = {"fixings": "label,day,value", "curve": "offset,factor", "scenarios": "scenario,label,day,value"}
-ANSWER = """const [status, text] = ["status", "text"].map((it) => document.getElementById(it).textContent);
+# What stands in an empty table of the page.
+HEADERS = {
+    "fixings": "label,day,value",
+    "curve": "offset,factor",
+    "scenarios": "scenario,label,day,value",
+}
+PRESS = """const links = [...document.querySelectorAll(".try a")];
+links.find((it) => it.getAttribute("href") === arguments[0]).click();"""
+ANSWER = """const of = (id) => document.getElementById(id)?.textContent ?? "";
 const isReady = document.documentElement.dataset.ready === "true";
-return isReady && status.startsWith("Status") | status.includes(" Status ") ? [status, text] : null;"""
+return isReady && /(^| )Status /.test(of("status")) ? [of("status"), of("text")] : null;"""
 
 Judge = Callable[[str, object, object], None]
 
@@ -51,8 +58,10 @@ def blocks_of(folder: Path, page: str) -> Iterator[tuple[str, list[Link]]]:
     """The text of each block of commands, and the links below it."""
     for found in BLOCK.finditer((folder / page).read_text(encoding="utf-8")):
         block = unescape(re.sub(r"<[^>]*>", "", found[1]))
-        links = LINK.findall(found[2] or "")
-        yield block, [Link(page, href, unescape(title or shown), block) for href, title, shown in links]
+        links = []
+        for href, title, shown in LINK.findall(found[2] or ""):
+            links.append(Link(page, href, unescape(title or shown), block))
+        yield block, links
 
 
 def shown_in(block: str) -> Iterator[tuple[str, str]]:
@@ -113,25 +122,37 @@ def statuses_of(name: str) -> set[int]:
     return {0, *command["statuses"]}
 
 
+def look_at(judge: Judge, link: Link, program: str) -> bool:
+    """The link leads to the page, with a run of which the program answers what the block shows; it
+    answers whether the block shows that."""
+    path = os.path.join(os.path.dirname(link.page), link.href.partition("#")[0])
+    is_right = os.path.normpath(path) == "page/index.html"
+    judge(f"where {link.name} of {link.page} leads", is_right, link.href)
+    status, text = answer(program, link.case)
+    shown = list(answers_shown(link))
+    if shown:
+        judge(f"what {link.name} of {link.page} answers", fits(text, shown), (status, text, shown))
+    else:
+        is_status = status in statuses_of(link.case["command"])
+        judge(f"what {link.name} of {link.page} ends with", is_status, (status, text))
+    return bool(shown)
+
+
+def fits(text: str, shown: list[tuple[str, bool]]) -> bool:
+    return any(text == it if is_all else it.startswith(text) for it, is_all in shown)
+
+
 def check(judge: Judge, folder: Path, pages: list[str], program: str) -> None:
-    """Each link has a run in it of which the program answers what the block shows."""
-    whole = without = 0
+    """All links of the site."""
+    whole = others = without = 0
     for page in pages:
         for block, links in blocks_of(folder, page):
             without += not links and any(shown_runs.is_run(it) for it, _ in shown_in(block))
-            for link in links:
-                to = os.path.normpath(os.path.join(os.path.dirname(page), link.href.partition("#")[0]))
-                judge(f"where {link.name} of {page} leads", to == "page/index.html", link.href)
-                status, text = answer(program, link.case)
-                shown = list(answers_shown(link))
-                whole += bool(shown)
-                if shown:
-                    holds = any(text == it if is_all else it.startswith(text) for it, is_all in shown)
-                    judge(f"what {link.name} of {page} answers", holds, (status, text, shown))
-                else:
-                    is_status = status in statuses_of(link.case["command"])
-                    judge(f"what {link.name} of {page} ends with", is_status, (status, text))
-    print(f"{whole} links have the answer over them, {without} blocks of runs have no link", flush=True)
+            found = [look_at(judge, link, program) for link in links]
+            whole, others = whole + sum(found), others + len(found) - sum(found)
+    judge("how many links there are", whole > 80 and others > 50 and without < 20, "too few")
+    print(f"{whole} links have the answer over them, {others} a part of it or none", flush=True)
+    print(f"{without} blocks of runs have no link", flush=True)
 
 
 def sample(folder: Path, pages: list[str]) -> Iterator[Link]:
@@ -148,13 +169,11 @@ def follow(judge: Judge, folder: Path, pages: list[str], program: str) -> None:
         for link in sample(folder, pages):
             browser.open("about:blank")
             browser.open(f"{serving.url}{link.page}")
-            find = "return [...document.querySelectorAll('.try a')].find((it) => it.getAttribute('href') === arguments[0])"
-            browser.do(f"{find.replace('return ', 'const link = ')}; link.click();", link.href)
+            browser.do(PRESS, link.href)
             said, text = browser.wait(lambda: browser.do(ANSWER), f"no answer to {link.name}")
             status, wanted = answer(program, link.case)
             holds = text == wanted and f"Status {status}:" in said
             judge(f"{link.name} of {link.page}, followed", holds, (said, text, wanted))
             shown = list(answers_shown(link))
             if shown:
-                holds = any(text == it if is_all else it.startswith(text) for it, is_all in shown)
-                judge(f"{link.name} of {link.page}, as shown", holds, (text, shown))
+                judge(f"{link.name} of {link.page}, as shown", fits(text, shown), (text, shown))

@@ -2,10 +2,10 @@
 the page for browsers with such a run.
 
 The commands of a page are run by bash in a folder of its own, as tools/check-docs does: those that
-run the program, and those that make a file that a later one takes. There ./tilugba is a recorder: it
-notes the words and the files that they name, and goes on as the program. So a run over files that
-an earlier command made is known. Blocks that want other tools are left out, and so are loops, and
-runs that the form of the page has no place for: an invalid command line, a file that is not there.
+run the program, and those that make a file that a later one takes. There ./tilugba is a recorder:
+it notes the words and the files that they name, and goes on as the program. So a run over files
+that an earlier command made is known. Blocks that want other tools are left out, and so are loops,
+and runs that the form of the page has no place for: an invalid command line, a missing file.
 """
 from __future__ import annotations
 
@@ -101,7 +101,7 @@ class Folder:
         file.write_text(text, encoding="utf-8")
 
     def run(self, command: str) -> list[Run]:
-        """Runs a command; answers the runs of the program that are to have links, in their order."""
+        """Runs a command; answers the runs of the program that are to have links, as they come."""
         self.record.unlink(missing_ok=True)
         (self.folder / "tilugba").unlink(missing_ok=True)
         (self.folder / "tilugba").symlink_to(self.recorder if is_run(command) else self.program)

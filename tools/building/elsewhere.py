@@ -73,8 +73,9 @@ class Elsewhere:
 
     @contextlib.contextmanager
     def over_proved(self, only_kept: bool) -> Iterator[None]:
-        """Has all libraries below the crate proved, or takes those that the gate has kept, for as long
-        as something is made over them. Raises NotKept if only those may be taken, and are not."""
+        """Has all libraries below the crate proved, or takes those that the gate has kept, for as
+        long as something is made over them. Raises NotKept if only kept ones may be taken, and one
+        is not."""
         texts = Sources(self.repository, library.CRATE).sum()
         with library.over_proved(self.tools, self.repository, only_kept) as top:
             if top == self.repository:
@@ -92,8 +93,8 @@ class Elsewhere:
         self.must_run([self.clang, *as_text])
 
     def build(self, tools: Path, archive: str, *more: str) -> None:
-        """Has the crate proved and built, as `rt lib` has it, but with tools of one's own or for another
-        processor."""
+        """Has the crate proved and built, as `rt lib` has it, but with tools of one's own or for
+        another processor."""
         top = self.proved
         assert top is not None
         sys.path.insert(0, str(self.kit / "bin"))
