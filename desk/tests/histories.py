@@ -202,7 +202,9 @@ def a_history(dice: Any) -> History:
     full = random_portfolios.declared(dice)
     while not full.labels:
         full = random_portfolios.declared(dice)
-    first = random_portfolios.source(dice, random_portfolios.narrowed(dice, full, full.start), "c", 7, 3)
+    first = random_portfolios.source(
+        dice, random_portfolios.narrowed(dice, full, full.start), "c", 7, 3
+    )
     others = []
     for prefix in "defg":
         start = max(0, full.start + dice.between(-5, 15))
@@ -212,7 +214,9 @@ def a_history(dice: Any) -> History:
     world = World(dice, full)
     world.fill(full.start - 70, full.start + 110)
     for it in (first, *others):
-        random_portfolios.flows(the_program(), world, it.text, [name for name, _ in it.declared.labels])
+        random_portfolios.flows(
+            the_program(), world, it.text, [name for name, _ in it.declared.labels]
+        )
     return History(dice, world, wrong_world(dice, world, full.start), first, others, full.start)
 
 

@@ -1,4 +1,6 @@
-"""Random portfolios and tables, made by tests/random at the top of the repository, whose seeds give the same on each machine."""
+"""Random portfolios and tables, made by tests/random at the top of the repository, whose seeds give
+the same on each machine.
+"""
 
 from __future__ import annotations
 
@@ -26,7 +28,9 @@ class Source:
 
 @dataclass
 class World:
-    """What is observed of all labels of some declarations, as it is asked for: the same value of a place each time."""
+    """What is observed of all labels of some declarations, as it is asked for: the same value of a
+    place each time.
+    """
 
     dice: Any
     declared: Any
@@ -56,7 +60,9 @@ class World:
 
 
 def table_of(rows: dict[Place, str]) -> bytes:
-    return ("label,day,value\n" + "".join(f"{label},{day},{it}\n" for (label, day), it in rows.items())).encode()
+    return (
+        "label,day,value\n" + "".join(f"{label},{day},{it}\n" for (label, day), it in rows.items())
+    ).encode()
 
 
 def declared(dice: Any) -> Any:
@@ -66,7 +72,9 @@ def declared(dice: Any) -> Any:
 
 def narrowed(dice: Any, full: Any, start: int) -> Any:
     """Some of the declarations, for a book of its own that begins on another day."""
-    some = lambda things, least: [it for number, it in enumerate(things) if number < least or dice.chance(60)]
+    some = lambda things, least: [
+        it for number, it in enumerate(things) if number < least or dice.chance(60)
+    ]
     assets = [(name, full.decimals[name]) for name in some(full.assets, 1)]
     labels, templates = some(full.labels, 0), some(full.templates, 0)
     head = (full.version, full.amounts, full.origin, start)

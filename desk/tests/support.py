@@ -30,8 +30,10 @@ def a_loop() -> None:
 
 
 def slowness() -> float:
-    """How many times as long as on a quiet machine Python takes here and now, and at least 1: processors that others use too are slower.
-    Limits of time are stretched by that, so that they tell of the code and not of the machine."""
+    """How many times as long as on a quiet machine Python takes here and now, and at least 1:
+    processors that others use too are slower. Limits of time are stretched by that, so that they
+    tell of the code and not of the machine.
+    """
     taken = []
     for _ in range(5):
         start = time.process_time()

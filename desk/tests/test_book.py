@@ -34,7 +34,9 @@ class Books(Room):
         days.
         """
         full = random_portfolios.declared(dice)
-        one = random_portfolios.source(dice, random_portfolios.narrowed(dice, full, full.start), "c", count)
+        one = random_portfolios.source(
+            dice, random_portfolios.narrowed(dice, full, full.start), "c", count
+        )
         other = random_portfolios.narrowed(dice, full, max(0, full.start + dice.between(-9, 9)))
         two = random_portfolios.source(dice, other, prefix, count)
         world = World(dice, full)

@@ -1,4 +1,6 @@
-"""The commands as functions, over the library and over the program: one behaviour, and each answer is written again from its rows."""
+"""The commands as functions, over the library and over the program: one behaviour, and each answer
+is written again from its rows.
+"""
 
 import concurrent.futures
 import datetime
@@ -18,14 +20,25 @@ from tilugba import calls, engines, native
 from tilugba.answer_rows import Flow, Named, Position, Verdict
 from tilugba.calls import Calls
 
-HEAD = "portfolio 1;\namounts 2;\norigin 2026-01-05;\nparty A, B, C;\nasset EUR;\nnum FX : 4 in 0.5000 .. 2.0000;\n"
-LOAN = HEAD + "contract loan = both(scale(100.00, pay(EUR, A, B)), after(90, scale(105.00, pay(EUR, B, A))));\n"
-SPOT = HEAD + "contract spot = after(2, scale(round(half_even, 2, (obs(FX, 0) * 10.00)), pay(EUR, A, B)));\n"
+HEAD = (
+    "portfolio 1;\namounts 2;\norigin 2026-01-05;\nparty A, B, C;\nasset EUR;\nnum FX : 4 in "
+    "0.5000 .. 2.0000;\n"
+)
+LOAN = (
+    f"{HEAD}contract loan = both(scale(100.00, pay(EUR, A, B)), "
+    "after(90, scale(105.00, pay(EUR, B, A))));\n"
+)
+SPOT = (
+    f"{HEAD}contract spot = "
+    "after(2, scale(round(half_even, 2, (obs(FX, 0) * 10.00)), pay(EUR, A, B)));\n"
+)
 DAY = datetime.date(2026, 1, 5)
 FIXED = [("FX", datetime.date(2026, 1, 7), Decimal("1.2345"))]
 CURVE = [(0, 1), (30, Decimal("0.99"))]
 ASKED = {"at": 0, "payer": "A", "receiver": "B", "asset": "EUR"}
-FOLDERS = sorted(path.parent for top in (EXAMPLES, TOP / "tests/cases") for path in top.glob("*/command"))
+FOLDERS = sorted(
+    path.parent for top in (EXAMPLES, TOP / "tests/cases") for path in top.glob("*/command")
+)
 
 
 def the_library() -> Path:
@@ -74,8 +87,12 @@ class Behaviour:
             self.desk.flows(str(path))
 
     def test_positions_settle_and_check(self) -> None:
-        self.assertEqual(self.desk.positions(LOAN, until=0)[0], Position(DAY, "A", "EUR", Decimal("-100.00")))
-        self.assertEqual(self.desk.settle(LOAN, until=0), [Flow("*", DAY, "A", "B", "EUR", Decimal("100.00"))])
+        self.assertEqual(
+            self.desk.positions(LOAN, until=0)[0], Position(DAY, "A", "EUR", Decimal("-100.00"))
+        )
+        self.assertEqual(
+            self.desk.settle(LOAN, until=0), [Flow("*", DAY, "A", "B", "EUR", Decimal("100.00"))]
+        )
         wrong = LOAN + "contract bad = scale(true, pay(EUR, A, B));\n"
         told = self.desk.check(wrong)
         self.assertEqual(told[0], Verdict("loan", True, 0, 2, Decimal("205.00"), 91))
@@ -98,7 +115,9 @@ class Behaviour:
         found = self.desk.scenarios(code, table, CURVE, **ASKED, mean="half_even")
         self.assertEqual([it.name for it in found.values], ["up", "down"])
         self.assertEqual((found.total, found.mean), (Decimal(35), Decimal("17.5")))
-        self.assertEqual((found.least, found.greatest), (Named("down", Decimal(15)), Named("up", Decimal(20))))
+        self.assertEqual(
+            (found.least, found.greatest), (Named("down", Decimal(15)), Named("up", Decimal(20)))
+        )
 
     def test_settings(self) -> None:
         text = LOAN.replace("contract", "template T = 90;\ncontract").replace("after(90", "after(T")
@@ -108,7 +127,10 @@ class Behaviour:
 
     def test_texts(self) -> None:
         self.assertTrue(self.desk.migrate(LOAN).startswith("portfolio 2;\n"))
-        plans = HEAD.replace("portfolio", "schedules") + "leg rent = 25.00 of EUR from A to B first 0 every 30 times 4;\n"
+        plans = (
+            HEAD.replace("portfolio", "schedules")
+            + "leg rent = 25.00 of EUR from A to B first 0 every 30 times 4;\n"
+        )
         self.assertEqual(len(self.desk.flows(self.desk.expand(plans))), 4)
         self.assertEqual((self.desk.sample(50).contracts, self.desk.sample(50).lines), (50, 50))
 
@@ -135,56 +157,108 @@ class Behaviour:
         with self.assertRaises(tilugba.UsageError):
             self.desk.flows(LOAN, contract="--net")
 
-    def raised(self, kind: type[tilugba.TilugbaError], call: Callable[[], object]) -> tilugba.TilugbaError:
+    def raised(
+        self, kind: type[tilugba.TilugbaError], call: Callable[[], object]
+    ) -> tilugba.TilugbaError:
         """What a call raises. It crosses a border between processes as it is."""
         with self.assertRaises(kind) as caught:
             call()
         error = caught.exception
         again = pickle.loads(pickle.dumps(error))
-        self.assertEqual((type(again), again.status, str(again), vars(again)), (kind, error.status, str(error), vars(error)))
+        self.assertEqual(
+            (type(again), again.status, str(again), vars(again)),
+            (kind, error.status, str(error), vars(error)),
+        )
         return error
 
-    def parts(self, kind: type[tilugba.TilugbaError], call: Callable[[], object], *names: str) -> tuple[object, ...]:
+    def parts(
+        self, kind: type[tilugba.TilugbaError], call: Callable[[], object], *names: str
+    ) -> tuple[object, ...]:
         error = self.raised(kind, call)
         return (error.status, *(getattr(error, name) for name in names))
 
     def test_each_status_has_its_class(self) -> None:
         desk, bad = self.desk, LOAN.replace("100.00", "100.005")
         head = "label,day,value\n"
-        self.assertEqual(self.parts(tilugba.Refused, lambda: desk.flows(bad), "name", "rule", "node"), (1, "loan", "scale", 1))
+        self.assertEqual(
+            self.parts(tilugba.Refused, lambda: desk.flows(bad), "name", "rule", "node"),
+            (1, "loan", "scale", 1),
+        )
         self.assertEqual(self.parts(tilugba.UsageError, lambda: desk.sample(0)), (2,))
-        self.assertEqual(self.parts(tilugba.ReadError, lambda: desk.flows(Path("/none"), []), "place"), (3, 1))
-        self.assertEqual(self.parts(tilugba.ReadError, lambda: desk.flows(LOAN, Path("/none")), "place"), (3, 2))
-        self.assertEqual(self.parts(tilugba.TooLong, lambda: desk.check(b" " * 16_777_217), "place"), (5, 1))
-        self.assertEqual(self.parts(tilugba.ParseError, lambda: desk.check(LOAN + ";"), "kind", "line", "column"), (6, "syntax", 8, 1))
+        self.assertEqual(
+            self.parts(tilugba.ReadError, lambda: desk.flows(Path("/none"), []), "place"), (3, 1)
+        )
+        self.assertEqual(
+            self.parts(tilugba.ReadError, lambda: desk.flows(LOAN, Path("/none")), "place"), (3, 2)
+        )
+        self.assertEqual(
+            self.parts(tilugba.TooLong, lambda: desk.check(b" " * 16_777_217), "place"), (5, 1)
+        )
+        self.assertEqual(
+            self.parts(
+                tilugba.ParseError, lambda: desk.check(LOAN + ";"), "kind", "line", "column"
+            ),
+            (6, "syntax", 8, 1),
+        )
         row = ("place", "record", "kind", "earlier")
-        self.assertEqual(self.parts(tilugba.RowError, lambda: desk.flows(LOAN, head + "GX,0,1\n"), *row), (7, 2, 2, "label", None))
+        self.assertEqual(
+            self.parts(tilugba.RowError, lambda: desk.flows(LOAN, head + "GX,0,1\n"), *row),
+            (7, 2, 2, "label", None),
+        )
         twice = [("FX", 0, 1), ("FX", DAY, 2)]
-        self.assertEqual(self.parts(tilugba.RowError, lambda: desk.flows(LOAN, twice), *row), (7, 2, 3, "conflict", 2))
+        self.assertEqual(
+            self.parts(tilugba.RowError, lambda: desk.flows(LOAN, twice), *row),
+            (7, 2, 3, "conflict", 2),
+        )
         missing = ("label", "day", "date", "scenario")
         wanted = (8, "FX", 2, datetime.date(2026, 1, 7), None)
-        self.assertEqual(self.parts(tilugba.MissingFixing, lambda: desk.flows(SPOT), *missing), wanted)
+        self.assertEqual(
+            self.parts(tilugba.MissingFixing, lambda: desk.flows(SPOT), *missing), wanted
+        )
         numbers = SPOT.replace("origin 2026-01-05;\n", "")
-        self.assertEqual(self.parts(tilugba.MissingFixing, lambda: desk.flows(numbers), *missing), (8, "FX", 2, None, None))
+        self.assertEqual(
+            self.parts(tilugba.MissingFixing, lambda: desk.flows(numbers), *missing),
+            (8, "FX", 2, None, None),
+        )
         code, table = desk.payoff(SPOT, contract="spot"), [("up", "FX", 1, 1)]
         lacks = lambda: desk.scenarios(code, table, CURVE, **ASKED, mean="floor")
-        self.assertEqual(self.parts(tilugba.MissingFixing, lacks, *missing), (8, "FX", 2, datetime.date(2026, 1, 7), "up"))
-        self.assertEqual(self.parts(tilugba.UnknownName, lambda: desk.flows(LOAN, contract="other"), "name"), (10, "other"))
-        self.assertEqual(self.parts(tilugba.DayOutOfRange, lambda: desk.flows(LOAN, until=2_000_000), "word"), (11, "2000000"))
+        self.assertEqual(
+            self.parts(tilugba.MissingFixing, lacks, *missing),
+            (8, "FX", 2, datetime.date(2026, 1, 7), "up"),
+        )
+        self.assertEqual(
+            self.parts(tilugba.UnknownName, lambda: desk.flows(LOAN, contract="other"), "name"),
+            (10, "other"),
+        )
+        self.assertEqual(
+            self.parts(tilugba.DayOutOfRange, lambda: desk.flows(LOAN, until=2_000_000), "word"),
+            (11, "2000000"),
+        )
         great = HEAD + "contract c = scale(1000000000000000000000000.00, pay(EUR, A, B));\n"
-        code, table = desk.payoff(great, contract="c"), [(f"s{number}", "FX", 0, 1) for number in range(11)]
+        code = desk.payoff(great, contract="c")
+        table = [(f"s{number}", "FX", 0, 1) for number in range(11)]
         many = lambda: desk.scenarios(code, table, CURVE, **ASKED, mean="floor")
         self.assertEqual(self.parts(tilugba.TooManyScenarios, many, "count"), (12, 11))
-        self.assertEqual(self.parts(tilugba.NotUtf8, lambda: desk.flows(LOAN, contract="\udcff")), (13,))
+        self.assertEqual(
+            self.parts(tilugba.NotUtf8, lambda: desk.flows(LOAN, contract="\udcff")), (13,)
+        )
 
     def test_classes_are_also_those_of_python(self) -> None:
-        self.assertTrue(issubclass(tilugba.MissingFixing, LookupError) and issubclass(tilugba.ParseError, ValueError))
-        self.assertTrue(issubclass(tilugba.OutOfMemory, MemoryError) and issubclass(tilugba.ReadError, OSError))
+        self.assertTrue(
+            issubclass(tilugba.MissingFixing, LookupError)
+            and issubclass(tilugba.ParseError, ValueError)
+        )
+        self.assertTrue(
+            issubclass(tilugba.OutOfMemory, MemoryError) and issubclass(tilugba.ReadError, OSError)
+        )
 
     def test_threads_at_once(self) -> None:
         one = lambda number: self.desk.flows(LOAN.replace("105.00", f"{number}.00"))[1].amount
         with concurrent.futures.ThreadPoolExecutor(4) as threads:
-            self.assertEqual(list(threads.map(one, range(1, 41))), [Decimal(f"{number}.00") for number in range(1, 41)])
+            self.assertEqual(
+                list(threads.map(one, range(1, 41))),
+                [Decimal(f"{number}.00") for number in range(1, 41)],
+            )
 
     def test_each_answer_is_written_again_from_its_rows(self) -> None:
         self.assertGreater(len(FOLDERS), 100)
@@ -195,12 +269,19 @@ class Behaviour:
     def try_folder(self, folder: Path) -> None:
         """An example as it must be, and its text out of its rows."""
         words = (folder / "command").read_bytes().splitlines()
-        files = {word: folder / os.fsdecode(word) for word in words if word and (folder / os.fsdecode(word)).is_file()}
+        files = {
+            word: folder / os.fsdecode(word)
+            for word in words
+            if word and (folder / os.fsdecode(word)).is_file()
+        }
         status = folder / "status"
         wanted = int(status.read_text()) if status.exists() else 0
         answer = self.desk.run(words, files)
         self.assertEqual((answer.status, answer.output), (wanted, (folder / "output").read_bytes()))
-        if wanted == 0 or (wanted == 1 and words[0] == b"check" and answer.fault and not answer.fault.line):
+        if (
+            wanted == 0
+            or (wanted == 1 and words[0] == b"check" and answer.fault and not answer.fault.line)
+        ):
             self.assertEqual(again(words[0].decode(), answer.text), answer.text)
 
 
@@ -235,7 +316,13 @@ class OverLibrary(Behaviour, Room):
     make = staticmethod(over_library)
 
     def test_a_text_that_is_longer_than_the_room(self) -> None:
-        book = HEAD + "".join(f"contract c{day} = after({day}, scale(1.00, pay(EUR, A, B)));\n" for day in range(5000))
+        book = (
+            HEAD
+            + "".join(
+                f"contract c{day} = after({day}, scale(1.00, pay(EUR, A, B)));\n"
+                for day in range(5000)
+            )
+        )
         for _ in range(2):
             self.assertEqual(len(self.desk.flows(book)), 5000)
 
@@ -267,7 +354,9 @@ class Children(Room):
 
     def test_a_pool_that_spawns(self) -> None:
         with tilugba.pool(2) as workers:
-            self.assertEqual(list(workers.map(last_amount, (1, 2))), [Decimal("1.00"), Decimal("2.00")])
+            self.assertEqual(
+                list(workers.map(last_amount, (1, 2))), [Decimal("1.00"), Decimal("2.00")]
+            )
             with self.assertRaises(tilugba.DayOutOfRange):
                 workers.submit(tilugba.flows, LOAN, until=2_000_000).result()
 
@@ -286,8 +375,13 @@ class Children(Room):
         self.assertIsInstance(caught.exception, TimeoutError)
 
     def test_a_call_without_enough_memory(self) -> None:
-        book = HEAD + "".join(f"contract c{day} = scale(1.00, pay(EUR, A, B));\n" for day in range(200_000))
-        with mock.patch.dict(os.environ, {engines.LIBRARY_VARIABLE: str(the_library())}), self.assertRaises(tilugba.OutOfMemory):
+        book = (
+            HEAD
+            + "".join(f"contract c{day} = scale(1.00, pay(EUR, A, B));\n" for day in range(200_000))
+        )
+        with mock.patch.dict(
+            os.environ, {engines.LIBRARY_VARIABLE: str(the_library())}
+        ), self.assertRaises(tilugba.OutOfMemory):
             tilugba.limited(seconds=300, memory=4 << 20).flows(book)
 
 
@@ -315,15 +409,24 @@ class Package(Room):
         with mock.patch.object(native, "CPUINFO", os.devnull):
             native.refuse_old_processor()
         old = self.file("cpuinfo", "processor : 0\nflags : fpu sse2 cx16 pni ssse3 lahf_lm\n")
-        with mock.patch.object(native, "CPUINFO", str(old)), self.assertRaises(ImportError) as caught:
+        with mock.patch.object(native, "CPUINFO", str(old)), self.assertRaises(
+            ImportError
+        ) as caught:
             native.refuse_old_processor()
-        told = "the library of tilugba needs a processor of x86-64-v2, and this one lacks popcnt, sse4_1, sse4_2"
+        told = (
+            "the library of tilugba needs a processor of x86-64-v2, and this one lacks popcnt, "
+            "sse4_1, sse4_2"
+        )
         self.assertEqual(str(caught.exception), told)
 
     def test_without_library_and_program(self) -> None:
         gone = {engines.LIBRARY_VARIABLE: "", "TILUGBA": "", "PATH": ""}
         found = mock.patch.object(engines, "library_path", return_value=None)
-        none = mock.patch.object(engines.program, "find", side_effect=engines.Stop(70, "there is no program"))
-        with mock.patch.dict(os.environ, gone), found, none, self.assertRaises(tilugba.NoAnswer) as caught:
+        none = mock.patch.object(
+            engines.program, "find", side_effect=engines.Stop(70, "there is no program")
+        )
+        with mock.patch.dict(os.environ, gone), found, none, self.assertRaises(
+            tilugba.NoAnswer
+        ) as caught:
             Calls(calls.Found()).flows(LOAN)
         self.assertIn("there is no program", str(caught.exception))

@@ -1,4 +1,6 @@
-"""Tables out of rows and DataFrames: what is exact goes in as it is, and what is not is refused with its row and column."""
+"""Tables out of rows and DataFrames: what is exact goes in as it is, and what is not is refused
+with its row and column.
+"""
 
 import datetime
 import pickle
@@ -20,7 +22,10 @@ except ImportError:
 
 DAY = datetime.date(2026, 1, 7)
 NAN = float("nan")
-FLAGGED = HEAD + "flag F;\ncontract c = if obs(F, 0) within 1 then scale(1.00, pay(EUR, A, B)) else zero;\n"
+FLAGGED = (
+    HEAD
+    + "flag F;\ncontract c = if obs(F, 0) within 1 then scale(1.00, pay(EUR, A, B)) else zero;\n"
+)
 
 
 class Fixing(NamedTuple):
@@ -35,21 +40,34 @@ class Tables(unittest.TestCase):
     """Tables as bytes."""
 
     def test_values_are_written_exactly(self) -> None:
-        values = [(Decimal("1.10"), "1.10"), (Decimal("1E-7"), "0.0000001"), (Decimal("-0.5"), "-0.5")]
+        values = [
+            (Decimal("1.10"), "1.10"), (Decimal("1E-7"), "0.0000001"), (Decimal("-0.5"), "-0.5")
+        ]
         values += [(3, "3"), ("1.25", "1.25"), (True, "true")]
         for value, written in values:
             with self.subTest(value=value):
-                self.assertEqual(fixings_table([("FX", 2, value)]), f"label,day,value\nFX,2,{written}\n".encode())
+                self.assertEqual(
+                    fixings_table([("FX", 2, value)]), f"label,day,value\nFX,2,{written}\n".encode()
+                )
 
     def test_days(self) -> None:
-        days = [(0, "0"), (-3, "-3"), *((day, "2026-01-07") for day in (DAY, "2026-01-07", datetime.datetime(2026, 1, 7)))]
+        days = [
+            (0, "0"),
+            (-3, "-3"),
+            *((day, "2026-01-07") for day in (DAY, "2026-01-07", datetime.datetime(2026, 1, 7))),
+        ]
         for day, written in days:
             with self.subTest(day=day):
-                self.assertEqual(fixings_table([("FX", day, 1)]), f"label,day,value\nFX,{written},1\n".encode())
+                self.assertEqual(
+                    fixings_table([("FX", day, 1)]), f"label,day,value\nFX,{written},1\n".encode()
+                )
 
     def test_rows_may_have_names(self) -> None:
         wanted = b"label,day,value\nFX,2026-01-07,1.5\n"
-        self.assertEqual(fixings_table([{"value": Decimal("1.5"), "day": DAY, "label": "FX", "source": "desk"}]), wanted)
+        self.assertEqual(
+            fixings_table([{"value": Decimal("1.5"), "day": DAY, "label": "FX", "source": "desk"}]),
+            wanted,
+        )
         self.assertEqual(fixings_table([Fixing(DAY, "FX", Decimal("1.5"))]), wanted)
         self.assertEqual(fixings_table(iter([("FX", DAY, Decimal("1.5"))])), wanted)
         self.assertEqual(fixings_table([]), b"label,day,value\n")
@@ -61,17 +79,31 @@ class Tables(unittest.TestCase):
     def test_wide_rows(self) -> None:
         rows = [{"day": DAY, "FX": Decimal("1.5"), "GX": None}, {"day": 9, "GX": NAN, "F": False}]
         self.assertEqual(fixings_table(rows), b"label,day,value\nFX,2026-01-07,1.5\nF,9,false\n")
-        rows = [{"scenario": "up", "day": 2, "FX": 2}, {"scenario": "*", "day": 3, "FX": Decimal("NaN"), "F": True}]
+        rows = [
+            {"scenario": "up", "day": 2, "FX": 2},
+            {"scenario": "*", "day": 3, "FX": Decimal("NaN"), "F": True},
+        ]
         self.assertEqual(scenario_table(rows), b"scenario,label,day,value\nup,FX,2,2\n*,F,3,true\n")
 
     def test_curves(self) -> None:
-        self.assertEqual(curve_table([(0, 1), (30, Decimal("0.99"))]), b"offset,factor\n0,1\n30,0.99\n")
+        self.assertEqual(
+            curve_table([(0, 1), (30, Decimal("0.99"))]), b"offset,factor\n0,1\n30,0.99\n"
+        )
         rounded = curve_table([(0, 1.0), (30, 0.99)], mode="half_even", decimals={"factor": 4})
         self.assertEqual(rounded, b"offset,factor\n0,1.0000\n30,0.9900\n")
 
     def test_floats_are_rounded_once_by_their_own_value(self) -> None:
-        cases = [("half_even", 0.125, "0.12"), ("half_away", 0.125, "0.13"), ("half_away", -0.125, "-0.13"), ("floor", -0.121, "-0.13")]
-        cases += [("ceil", 0.121, "0.13"), ("half_away", 0.285, "0.28"), ("half_even", 1e20, "100000000000000000000.00")]
+        cases = [
+            ("half_even", 0.125, "0.12"),
+            ("half_away", 0.125, "0.13"),
+            ("half_away", -0.125, "-0.13"),
+            ("floor", -0.121, "-0.13"),
+        ]
+        cases += [
+            ("ceil", 0.121, "0.13"),
+            ("half_away", 0.285, "0.28"),
+            ("half_even", 1e20, "100000000000000000000.00"),
+        ]
         for mode, value, written in cases:
             with self.subTest(mode=mode, value=value):
                 table = fixings_table([("FX", 0, value)], mode=mode, decimals={"FX": 2})
@@ -88,7 +120,14 @@ class Tables(unittest.TestCase):
     def test_what_is_not_exact_names_its_row_and_column(self) -> None:
         good = ("FX", 0, 1)
         self.wrong(2, "value", "1.1 is a float and not exact", good, ("FX", 1, 1.1))
-        self.wrong(1, "value", "there are no decimals for FX", ("FX", 1, 1.1), mode="floor", decimals={"GX": 2})
+        self.wrong(
+            1,
+            "value",
+            "there are no decimals for FX",
+            ("FX", 1, 1.1),
+            mode="floor",
+            decimals={"GX": 2},
+        )
         self.wrong(1, "FX", "0.5 is a float", {"day": 0, "FX": 0.5})
         self.wrong(1, "value", "inf", ("FX", 1, float("inf")), mode="floor", decimals={"FX": 2})
         self.wrong(1, "value", "Fraction(1, 3)", ("FX", 1, Fraction(1, 3)))
@@ -125,7 +164,9 @@ class Calls(Room):
         self.desk = tilugba.over_program(the_program().path)
 
     def test_a_call_takes_rows(self) -> None:
-        for table in (FIXED, [{"day": 2, "FX": Decimal("1.2345")}], "label,day,value\nFX,2,1.2345\n"):
+        for table in (
+            FIXED, [{"day": 2, "FX": Decimal("1.2345")}], "label,day,value\nFX,2,1.2345\n"
+        ):
             self.assertEqual(self.desk.flows(SPOT, table)[0].amount, Decimal("12.34"))
         with self.assertRaises(TableError):
             self.desk.flows(SPOT, [("FX", 2, 1.2345)])
@@ -134,7 +175,9 @@ class Calls(Room):
 
     def test_a_bool_is_for_flags_alone(self) -> None:
         self.assertEqual(len(self.desk.flows(FLAGGED, [("F", 0, True)])), 1)
-        for table in ([("F", 0, 1), ("FX", 0, 1)], [("F", 0, False), ("F", 1, False), ("FX", 0, True)]):
+        for table in (
+            [("F", 0, 1), ("FX", 0, 1)], [("F", 0, False), ("F", 1, False), ("FX", 0, True)]
+        ):
             with self.subTest(table=table), self.assertRaises(tilugba.RowError) as caught:
                 self.desk.flows(FLAGGED, table)
             self.assertEqual(caught.exception.kind, "value")
@@ -148,11 +191,16 @@ class Frames(unittest.TestCase):
         row = Flow("c", datetime.date(5011, 1, 1), "A", "B", "EUR", Decimal("0.10"))
         frame = Rows(Flow, [row]).frame()
         self.assertEqual(list(frame.columns), list(Flow._fields))
-        self.assertEqual((frame.day[0], frame.amount[0], set(map(str, frame.dtypes))), (row.day, row.amount, {"object"}))
+        self.assertEqual(
+            (frame.day[0], frame.amount[0], set(map(str, frame.dtypes))),
+            (row.day, row.amount, {"object"}),
+        )
         self.assertEqual(len(Rows(Flow).frame()), 0)
 
     def test_long_and_wide_frames(self) -> None:
-        frame = pandas.DataFrame({"label": ["FX", "F"], "day": [DAY, 2], "value": [Decimal("1.5"), True]})
+        frame = pandas.DataFrame(
+            {"label": ["FX", "F"], "day": [DAY, 2], "value": [Decimal("1.5"), True]}
+        )
         self.assertEqual(fixings_table(frame), b"label,day,value\nFX,2026-01-07,1.5\nF,2,true\n")
         days = pandas.DatetimeIndex(["2026-01-07", "2026-01-08"], name="day")
         wide = pandas.DataFrame({"FX": [1.5, None], "GX": [None, 0.25]}, index=days)

@@ -1,4 +1,6 @@
-"""The wheel: the same files give the same bytes, and it installs without a network and answers from any folder."""
+"""The wheel: the same files give the same bytes, and it installs without a network and answers from
+any folder.
+"""
 
 import os
 import subprocess
@@ -27,7 +29,9 @@ class Wheel(Room):
 
     def setUp(self) -> None:
         super().setUp()
-        self.enterContext(mock.patch.dict(os.environ, {engines.LIBRARY_VARIABLE: str(the_library())}))
+        self.enterContext(
+            mock.patch.dict(os.environ, {engines.LIBRARY_VARIABLE: str(the_library())})
+        )
 
     def build(self, name: str) -> Path:
         folder = self.folder / name
@@ -37,7 +41,10 @@ class Wheel(Room):
     def test_the_same_files_give_the_same_wheel(self) -> None:
         first, second = self.build("first"), self.build("second")
         self.assertEqual(first.read_bytes(), second.read_bytes())
-        self.assertEqual(first.name, f"tilugba-{(TOP / 'VERSION').read_text().strip()}-py3-none-manylinux_2_17_x86_64.whl")
+        self.assertEqual(
+            first.name,
+            f"tilugba-{(TOP / 'VERSION').read_text().strip()}-py3-none-manylinux_2_17_x86_64.whl",
+        )
         with zipfile.ZipFile(first) as wheel:
             self.assertIsNone(wheel.testzip())
             names = wheel.namelist()
@@ -46,36 +53,77 @@ class Wheel(Room):
         self.assertFalse([name for name in names if "__pycache__" in name or "tests" in name])
 
     def test_without_a_library_it_says_what_to_do(self) -> None:
-        with mock.patch.dict(os.environ, {engines.LIBRARY_VARIABLE: "/none.so"}), self.assertRaises(SystemExit) as caught:
+        with mock.patch.dict(os.environ, {engines.LIBRARY_VARIABLE: "/none.so"}), self.assertRaises(
+            SystemExit
+        ) as caught:
             wheel_backend.build_wheel(str(self.folder))
         self.assertIn("tools/build-library", str(caught.exception))
 
     def test_it_installs_without_a_network(self) -> None:
         place = self.folder / "venv"
-        made = subprocess.run([sys.executable, "-m", "venv", place], capture_output=True, text=True, check=False)
+        made = subprocess.run(
+            [sys.executable, "-m", "venv", place], capture_output=True, text=True, check=False
+        )
         if made.returncode:
             self.skipTest(f"there is no venv: {made.stdout}{made.stderr}")
         python = place / "bin/python"
-        said = subprocess.run([python, "-m", "pip", "install", "--no-index", "-q", DESK], capture_output=True, text=True, check=False)
+        said = subprocess.run(
+            [python, "-m", "pip", "install", "--no-index", "-q", DESK],
+            capture_output=True,
+            text=True,
+            check=False,
+        )
         self.assertEqual(said.returncode, 0, said.stdout + said.stderr)
         self.assertFalse((DESK / "build").exists())
-        clean = {name: value for name, value in os.environ.items() if not name.startswith(("TILUGBA", "PYTHON"))}
-        used = subprocess.run([python, "-c", USE, LOAN], cwd="/", env=clean, capture_output=True, text=True, check=False)
+        clean = {
+            name: value
+            for name, value in os.environ.items()
+            if not name.startswith(("TILUGBA", "PYTHON"))
+        }
+        used = subprocess.run(
+            [python, "-c", USE, LOAN],
+            cwd="/",
+            env=clean,
+            capture_output=True,
+            text=True,
+            check=False,
+        )
         self.assertEqual(used.returncode, 0, used.stderr)
         amount, package, library = used.stdout.split()
         self.assertEqual((amount, Path(library).parent), ("105.00", Path(package).parent))
         self.assertTrue(Path(package).is_relative_to(place))
-        asked = subprocess.run([place / "bin/tilugba-desk", "--help"], cwd="/", env=clean, capture_output=True, text=True, check=False)
+        asked = subprocess.run(
+            [place / "bin/tilugba-desk", "--help"],
+            cwd="/",
+            env=clean,
+            capture_output=True,
+            text=True,
+            check=False,
+        )
         self.assertEqual(asked.returncode, 0, asked.stderr)
         self.refuses_an_older_processor(python, Path(package).with_name("native.py"), clean)
 
-    def refuses_an_older_processor(self, python: Path, native: Path, environment: dict[str, str]) -> None:
-        """The installed package is imported where the file that it asks tells of an older processor."""
+    def refuses_an_older_processor(
+        self, python: Path, native: Path, environment: dict[str, str]
+    ) -> None:
+        """The installed package is imported where the file that it asks tells of an older
+        processor.
+        """
         told = self.file("cpuinfo", OLD)
         native.write_text(native.read_text().replace("/proc/cpuinfo", str(told)))
-        tried = subprocess.run([python, "-c", "import tilugba"], cwd="/", env=environment, capture_output=True, text=True, check=False)
+        tried = subprocess.run(
+            [python, "-c", "import tilugba"],
+            cwd="/",
+            env=environment,
+            capture_output=True,
+            text=True,
+            check=False,
+        )
         self.assertEqual(tried.returncode, 1)
-        wanted = "ImportError: the library of tilugba needs a processor of x86-64-v2, and this one lacks sse4_2"
+        wanted = (
+            "ImportError: the library of tilugba needs a processor of x86-64-v2, and this one "
+            "lacks sse4_2"
+        )
         self.assertEqual(tried.stderr.splitlines()[-1], wanted)
 
 

@@ -21,7 +21,9 @@ def a_module(run: object) -> ModuleType:
 
 class Subcommands(unittest.TestCase):
     def run_one(self, run: object, *words: str) -> tuple[int, str, str]:
-        with mock.patch.object(cli, "names", return_value=["some"]), mock.patch.object(cli, "module_of", return_value=a_module(run)):
+        with mock.patch.object(cli, "names", return_value=["some"]), mock.patch.object(
+            cli, "module_of", return_value=a_module(run)
+        ):
             ran = run_desk(*words)
             return ran.status, ran.output, ran.errors
 
@@ -36,7 +38,9 @@ class Subcommands(unittest.TestCase):
         def run(arguments, desk):
             raise Stop(7, "a table\nis bad")
 
-        self.assertEqual(self.run_one(run, "some", "x"), (7, "", "tilugba-desk some: a table is bad\n"))
+        self.assertEqual(
+            self.run_one(run, "some", "x"), (7, "", "tilugba-desk some: a table is bad\n")
+        )
 
     def test_help(self) -> None:
         status, output, _ = self.run_one(None, "some", "--help")
@@ -67,18 +71,33 @@ class Subcommands(unittest.TestCase):
 
 class Processes(Room):
     def test_no_traceback(self) -> None:
-        script = "import sys; from tilugba import cli; cli.run = lambda *words: 1 / 0; sys.exit(cli.main())"
-        ran = subprocess.run([sys.executable, "-c", script], cwd=DESK, capture_output=True, text=True)
+        script = (
+            "import sys; from tilugba import cli; cli.run = lambda *words: 1 / 0; "
+            "sys.exit(cli.main())"
+        )
+        ran = subprocess.run(
+            [sys.executable, "-c", script], cwd=DESK, capture_output=True, text=True
+        )
         self.assertEqual(ran.returncode, 70)
-        self.assertEqual(ran.stderr, "tilugba-desk: this should not happen: ZeroDivisionError: division by zero\n")
+        self.assertEqual(
+            ran.stderr,
+            "tilugba-desk: this should not happen: ZeroDivisionError: division by zero\n",
+        )
 
     def test_output_that_cannot_be_written(self) -> None:
-        """A disk that is full, and a pipe that nobody reads: one line, and Python says no more at its end."""
+        """A disk that is full, and a pipe that nobody reads: one line, and Python says no more at
+        its end.
+        """
         book = self.file("book.txt", "portfolio 1; amounts 2;" + "# a comment\n" * 20_000)
         reader, writer = os.pipe()
         os.close(reader)
         for output in (os.open("/dev/full", os.O_WRONLY), writer):
-            ran = subprocess.run([DESK / "tilugba-desk", "format", book], stdout=output, stderr=subprocess.PIPE, text=True)
+            ran = subprocess.run(
+                [DESK / "tilugba-desk", "format", book],
+                stdout=output,
+                stderr=subprocess.PIPE,
+                text=True,
+            )
             os.close(output)
             self.assertEqual(ran.returncode, 4)
             self.assertEqual(ran.stderr.count("\n"), 1)

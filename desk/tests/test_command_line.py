@@ -1,4 +1,6 @@
-"""Words of the command line: they are taken or refused as the program does, and what is wrong is told."""
+"""Words of the command line: they are taken or refused as the program does, and what is wrong is
+told.
+"""
 
 import random
 import unittest
@@ -8,9 +10,53 @@ from tilugba import command_line
 from tilugba.command_line import FORMS, WrongWords
 from tilugba.program import Status
 
-PIECES = ["--until", "--net", "--to", "--at", "--from", "--asset", "--contract", "--mean", "--old", "--new", "--plain", "--until=3"]
-PIECES += ["--net=1", "--to=", "--", "-", "-x", "", "5", "2026-01-05", "2026-02-30", "-5", "1234567890", "A", "EUR", "if", "floor", "T=3"]
-PIECES += ["T=4", "S=100001", "=3", "T=", "T", "10001", "0", "1e3", "é", "--unti", "--contract=A", "a" * 65, "half_even"]
+PIECES = [
+    "--until",
+    "--net",
+    "--to",
+    "--at",
+    "--from",
+    "--asset",
+    "--contract",
+    "--mean",
+    "--old",
+    "--new",
+    "--plain",
+    "--until=3",
+]
+PIECES += [
+    "--net=1",
+    "--to=",
+    "--",
+    "-",
+    "-x",
+    "",
+    "5",
+    "2026-01-05",
+    "2026-02-30",
+    "-5",
+    "1234567890",
+    "A",
+    "EUR",
+    "if",
+    "floor",
+    "T=3",
+]
+PIECES += [
+    "T=4",
+    "S=100001",
+    "=3",
+    "T=",
+    "T",
+    "10001",
+    "0",
+    "1e3",
+    "é",
+    "--unti",
+    "--contract=A",
+    "a" * 65,
+    "half_even",
+]
 
 
 class Words(unittest.TestCase):
@@ -22,7 +68,9 @@ class Words(unittest.TestCase):
         return True
 
     def test_words_are_taken_as_the_program_takes_them(self) -> None:
-        """Of files that are not there the program says that they are not read, if it takes the words."""
+        """Of files that are not there the program says that they are not read, if it takes the
+        words.
+        """
         run, chance = the_program().run, random.Random(5)
         taken = 0
         for _ in range(1_500):
@@ -38,7 +86,10 @@ class Words(unittest.TestCase):
         command = chance.choice(list(FORMS))
         form = FORMS[command]
         values = {"DAY": "5", "NAME": "A", "MODE": "floor", "": None}
-        words = [f"/no/{it}" if it != "NUMBER" else "7" for it in form.files[: chance.randint(form.least, len(form.files))]]
+        words = [
+            f"/no/{it}" if it != "NUMBER" else "7"
+            for it in form.files[: chance.randint(form.least, len(form.files))]
+        ]
         for option, kind in form.options.items():
             if option in form.required or chance.random() < 0.4:
                 at = chance.randint(0, len(words)) if chance.random() < 0.3 else len(words)
@@ -74,4 +125,6 @@ class Words(unittest.TestCase):
     def test_the_forms(self) -> None:
         told = FORMS["value"].told()
         self.assertEqual(told, "value CODE FIX CURVE [T=N].. --at DAY --from P --to Q --asset A")
-        self.assertEqual(FORMS["flows"].told(), "flows PORT [FIX] [--until DAY] [--contract NAME] [--net]")
+        self.assertEqual(
+            FORMS["flows"].told(), "flows PORT [FIX] [--until DAY] [--contract NAME] [--net]"
+        )

@@ -26,7 +26,9 @@ ROWS = [
 class Quotients(unittest.TestCase):
     def test_each_mode(self) -> None:
         for top, below, wanted in ROWS:
-            self.assertEqual(tuple(decimals.quotient(top, below, mode) for mode in MODES), wanted, (top, below))
+            self.assertEqual(
+                tuple(decimals.quotient(top, below, mode) for mode in MODES), wanted, (top, below)
+            )
 
     def test_at_random(self) -> None:
         chance = random.Random(5)
@@ -53,5 +55,10 @@ class Sums(unittest.TestCase):
         self.assertEqual(decimals.text(Decimal("1E+3")), "1000")
 
     def test_a_mean_has_the_decimals_of_the_sum(self) -> None:
-        self.assertEqual([decimals.text(decimals.mean(Decimal("-0.25"), 2, mode)) for mode in MODES], ["-0.12", "-0.13", "-0.13", "-0.12"])
-        self.assertEqual(decimals.text(decimals.mean(Decimal("9" * 5000 + ".0"), 9, "floor")), "1" * 5000 + ".0")
+        self.assertEqual(
+            [decimals.text(decimals.mean(Decimal("-0.25"), 2, mode)) for mode in MODES],
+            ["-0.12", "-0.13", "-0.13", "-0.12"],
+        )
+        self.assertEqual(
+            decimals.text(decimals.mean(Decimal("9" * 5000 + ".0"), 9, "floor")), "1" * 5000 + ".0"
+        )

@@ -1,4 +1,6 @@
-"""Layouts: the same tokens and comments, lines of at most 100 columns, and a text that says the same to the program."""
+"""Layouts: the same tokens and comments, lines of at most 100 columns, and a text that says the
+same to the program.
+"""
 
 import os
 import random
@@ -59,13 +61,17 @@ class Layouts(unittest.TestCase):
 
     def test_columns_of_comments_are_kept(self) -> None:
         text = "portfolio 1;   # first\namounts   2;    # second\nparty A;# third\n"
-        self.assertEqual(laid_out(text), "portfolio 1;   # first\namounts 2;      # second\nparty A;  # third\n")
+        self.assertEqual(
+            laid_out(text), "portfolio 1;   # first\namounts 2;      # second\nparty A;  # third\n"
+        )
 
     def test_a_layout_stays(self) -> None:
         for example in self.whole():
             laid = formatting.formatted(Reading(example.data, example.grammar))
             with self.subTest(example=example.name):
-                self.assertEqual(formatting.formatted(Reading(laid.encode(), example.grammar)), laid)
+                self.assertEqual(
+                    formatting.formatted(Reading(laid.encode(), example.grammar)), laid
+                )
 
     def whole(self) -> list:
         found = [it for it in examples() if Reading(it.data, it.grammar).fault is None]
@@ -78,7 +84,9 @@ class Layouts(unittest.TestCase):
             for line in formatting.formatted(Reading(example.data, example.grammar)).splitlines():
                 if len(line) > formatting.WIDTH:
                     with self.subTest(example=example.name, line=line):
-                        self.assertTrue(line.lstrip().startswith("#") or len(list(tokens.tokens(line))) <= 2)
+                        self.assertTrue(
+                            line.lstrip().startswith("#") or len(list(tokens.tokens(line))) <= 2
+                        )
 
     def test_the_program_reads_the_same(self) -> None:
         run = the_program().run
@@ -92,19 +100,44 @@ class Layouts(unittest.TestCase):
 
     def test_random_blanks_and_comments_are_kept(self) -> None:
         chance = random.Random(4)
-        gaps = [" ", "\n", "\n\n\n", "\t", "\r\n", " # a comment\n", "\n# é alone\n", "#\n", "\n  # far  \n\n"]
+        gaps = [
+            " ",
+            "\n",
+            "\n\n\n",
+            "\t",
+            "\r\n",
+            " # a comment\n",
+            "\n# é alone\n",
+            "#\n",
+            "\n  # far  \n\n",
+        ]
         for example in self.whole():
-            text = "".join(it.text + chance.choice(gaps) for it in tokens.tokens(example.data.decode("latin-1")))
+            text = "".join(
+                it.text + chance.choice(gaps)
+                for it in tokens.tokens(example.data.decode("latin-1"))
+            )
             reading = Reading(text.encode(), example.grammar)
             with self.subTest(example=example.name, text=text):
                 laid = formatting.formatted(reading)
                 self.assertEqual(formatting.marks_of(laid), formatting.marks_of(text))
-                self.assertEqual(formatting.formatted(Reading(laid.encode(), example.grammar)), laid)
+                self.assertEqual(
+                    formatting.formatted(Reading(laid.encode(), example.grammar)), laid
+                )
 
     def test_a_long_text_is_laid_out(self) -> None:
-        deep = "portfolio 1; amounts 2; party A; asset E; contract c = " + "both(zero, " * 199 + "zero" + ")" * 199 + ";"
+        deep = (
+            "portfolio 1; amounts 2; party A; asset E; contract c = "
+            + "both(zero, " * 199
+            + "zero"
+            + ")" * 199
+            + ";"
+        )
         self.assertLessEqual(max(map(len, laid_out(deep).splitlines())), 100)
-        long = "portfolio 1; amounts 2; party " + ", ".join("a" * 60 + str(it) for it in range(50)) + ";"
+        long = (
+            "portfolio 1; amounts 2; party "
+            + ", ".join("a" * 60 + str(it) for it in range(50))
+            + ";"
+        )
         self.assertLessEqual(max(map(len, laid_out(long).splitlines())), 100)
 
 

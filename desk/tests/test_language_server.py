@@ -1,4 +1,6 @@
-"""The language server by its protocol: faults, places behind characters of several bytes, hovers, names, completion, formatting."""
+"""The language server by its protocol: faults, places behind characters of several bytes, hovers,
+names, completion, formatting.
+"""
 
 from __future__ import annotations
 
@@ -40,13 +42,19 @@ class Session(Room):
         super().setUp()
         self.program = the_program()
 
-    def talk(self, *messages: tuple[str, dict] | tuple[str, dict, int], program: Program | None = None) -> list[dict]:
+    def talk(
+        self, *messages: tuple[str, dict] | tuple[str, dict, int], program: Program | None = None
+    ) -> list[dict]:
         stream = io.BytesIO()
         writer = Connection(io.BytesIO(), stream)
         for method, params, *number in messages:
-            writer.write({"method": method, "params": params} | ({"id": number[0]} if number else {}))
+            writer.write(
+                {"method": method, "params": params} | ({"id": number[0]} if number else {})
+            )
         out = io.BytesIO()
-        Server(Connection(io.BytesIO(stream.getvalue()), out), lambda: program or self.program).serve()
+        Server(
+            Connection(io.BytesIO(stream.getvalue()), out), lambda: program or self.program
+        ).serve()
         return list(self.messages(out.getvalue()))
 
     def messages(self, data: bytes) -> list[dict]:
@@ -54,17 +62,25 @@ class Session(Room):
         return list(iter(reader.read, None))
 
     def opened(self, text: str) -> tuple[str, dict]:
-        return "textDocument/didOpen", {"textDocument": {"uri": URI, "languageId": "tilugba", "version": 1, "text": text}}
+        return "textDocument/didOpen", {
+            "textDocument": {"uri": URI, "languageId": "tilugba", "version": 1, "text": text}
+        }
 
     def asked(self, text: str, method: str, line: int, character: int, **more: object) -> object:
         """The result of a request at a position of a text."""
-        params = {"textDocument": {"uri": URI}, "position": {"line": line, "character": character}, **more}
+        params = {
+            "textDocument": {"uri": URI}, "position": {"line": line, "character": character}, **more
+        }
         answers = self.talk(self.opened(text), (f"textDocument/{method}", params, 1))
         return next(it for it in answers if it.get("id") == 1)["result"]
 
     def faults(self, text: str, *further: tuple[str, dict]) -> list[dict]:
         """The last diagnostics that are shown of a text."""
-        shown = [it for it in self.talk(self.opened(text), *further) if it.get("method") == "textDocument/publishDiagnostics"]
+        shown = [
+            it
+            for it in self.talk(self.opened(text), *further)
+            if it.get("method") == "textDocument/publishDiagnostics"
+        ]
         return shown[-1]["params"]["diagnostics"]
 
 
@@ -90,7 +106,9 @@ class Faults(Session):
             """A change within line 3, the fourth."""
             there = {"start": {"line": 3, "character": start}, "end": {"line": 3, "character": end}}
             version = {"textDocument": {"uri": URI, "version": 2}}
-            return "textDocument/didChange", version | {"contentChanges": [{"range": there, "text": text}]}
+            return "textDocument/didChange", version | {
+                "contentChanges": [{"range": there, "text": text}]
+            }
 
         steps = [change(16, 16, " Acme Co"), change(16, 24, ""), change(22, 25, "ä")]
         shown = self.serve_step_by_step(self.opened(BOOK), *steps)
@@ -104,11 +122,23 @@ class Faults(Session):
         """Behind `é € 𝄞` a column counts 2, 3 and 4 bytes, and 1, 1 and 2 units."""
         text = "portfolio 1;\namounts 2; # é € 𝄞\n# é € 𝄞\n"
         [found] = self.faults(text + "party A B;")
-        self.assertEqual(found["range"], {"start": {"line": 3, "character": 8}, "end": {"line": 3, "character": 9}})
+        self.assertEqual(
+            found["range"],
+            {"start": {"line": 3, "character": 8}, "end": {"line": 3, "character": 9}},
+        )
         [found] = self.faults("portfolio 1;\namounts 2;\nparty é€𝄞 A;")
         self.assertEqual(found["range"]["start"], {"line": 2, "character": 6})
         document = Document(URI, "aé€𝄞b\nx".encode())
-        places = [(0, 0, 0), (1, 0, 1), (3, 0, 2), (6, 0, 3), (10, 0, 5), (11, 0, 6), (12, 1, 0), (13, 1, 1)]
+        places = [
+            (0, 0, 0),
+            (1, 0, 1),
+            (3, 0, 2),
+            (6, 0, 3),
+            (10, 0, 5),
+            (11, 0, 6),
+            (12, 1, 0),
+            (13, 1, 1),
+        ]
         for at, line, character in places:
             self.assertEqual(document.position(at), {"line": line, "character": character})
             self.assertEqual(document.at({"line": line, "character": character}), at)
@@ -116,7 +146,9 @@ class Faults(Session):
         self.assertEqual(document.at({"line": 9, "character": 0}), 13)
 
     def test_changes_give_the_text_that_the_editor_has(self) -> None:
-        """Random changes of a text with characters of one to four bytes, beside the same on UTF-16 units."""
+        """Random changes of a text with characters of one to four bytes, beside the same on UTF-16
+        units.
+        """
         chance = random.Random(2)
         text, document = "aé€𝄞\n\r\nb", Document(URI, "aé€𝄞\n\r\nb".encode())
         for _ in range(300):
@@ -134,25 +166,37 @@ class Faults(Session):
         return {"line": len(lines) - 1, "character": len(lines[-1].encode("utf-16-le")) // 2}
 
     def test_on_save_the_program_is_asked(self) -> None:
-        refused = BOOK + "contract d = scale(1.005, pay(EUR, Desk, Bank));\ncontract e = pay(EUR, Desk, Desk);\n"
+        refused = (
+            f"{BOOK}contract d = scale(1.005, pay(EUR, Desk, Bank));\n"
+            "contract e = pay(EUR, Desk, Desk);\n"
+        )
         self.assertEqual(self.faults(refused), [])
         shown = self.faults(refused, SAVED)
         first = shown[0]
-        self.assertEqual((first["severity"], first["code"], first["range"]["start"]["line"]), (1, "scale", 11))
+        self.assertEqual(
+            (first["severity"], first["code"], first["range"]["start"]["line"]), (1, "scale", 11)
+        )
         self.assertIn("1.005 has 3 decimals; amounts have 2", first["message"])
         self.assertIn((2, "itself"), [(it["severity"], it["code"]) for it in shown])
         code = "payoff 1; amounts 2; party A; asset E; code c = none;"
         self.assertEqual(self.faults(code, SAVED), [])
-        plan = "schedules 1; amounts 2; party A; asset E; leg c = 1.005 of E from A to A first 0 every 1 times 1;"
+        plan = (
+            "schedules 1; amounts 2; party A; asset E; leg c = 1.005 of E from A to A first 0 "
+            "every 1 times 1;"
+        )
         self.assertEqual([it["code"] for it in self.faults(plan, SAVED)], ["scale"])
-        self.assertEqual([it["code"] for it in self.faults(plan.replace("leg", "leg leg"), SAVED)], ["syntax"])
+        self.assertEqual(
+            [it["code"] for it in self.faults(plan.replace("leg", "leg leg"), SAVED)], ["syntax"]
+        )
 
     def test_a_program_that_is_missing(self) -> None:
         answers = self.talk(self.opened(BOOK), SAVED, program=Program(self.folder / "none"))
         self.assertTrue(any(it.get("method") == "window/showMessage" for it in answers))
 
     def test_closing_takes_faults_away(self) -> None:
-        self.assertEqual(self.faults("portfolio", ("textDocument/didClose", {"textDocument": {"uri": URI}})), [])
+        self.assertEqual(
+            self.faults("portfolio", ("textDocument/didClose", {"textDocument": {"uri": URI}})), []
+        )
 
 
 class Places(Session):
@@ -172,7 +216,10 @@ class Places(Session):
         self.assertIn("2026-02-04 (day 30, a Wednesday)", self.hover("30"))
         pay = self.hover("pay(")
         self.assertIn("node 7, `pay`: 2026-02-04 (day 30, a Wednesday)", pay)
-        self.assertIn("c is accepted: it pays nothing before 2026-02-04 (day 30, a Wednesday), at most 1.00", pay)
+        self.assertIn(
+            "c is accepted: it pays nothing before 2026-02-04 (day 30, a Wednesday), at most 1.00",
+            pay,
+        )
         label = self.hover("FX", 2)
         self.assertIn("`num FX : 4 in 0.5000 .. 2.0000;`", label)
         self.assertIn("node 1, `obs`: 2026-01-05 (day 0, a Monday)", label)
@@ -193,28 +240,59 @@ class Places(Session):
         self.assertIsNone(self.asked(BOOK, "definition", *self.spot("within")))
         context = {"context": {"includeDeclaration": True}}
         self.assertEqual(len(self.asked(BOOK, "references", *self.spot("FX"), **context)), 3)
-        self.assertEqual(len(self.asked(BOOK, "references", *self.spot("FX"), context={"includeDeclaration": False})), 2)
-        same = "portfolio 1; amounts 2; party A; asset A;\ncontract A = let A = 1 in scale(A, pay(A, A, A));"
-        found = [self.asked(same, "references", *spot, **context) for spot in ((0, 30), (0, 39), (1, 9), (1, 17))]
+        self.assertEqual(
+            len(
+                self.asked(
+                    BOOK, "references", *self.spot("FX"), context={"includeDeclaration": False}
+                )
+            ),
+            2,
+        )
+        same = (
+            "portfolio 1; amounts 2; party A; asset A;\ncontract A = let A = 1 in scale(A, pay(A, "
+            "A, A));"
+        )
+        found = [
+            self.asked(same, "references", *spot, **context)
+            for spot in ((0, 30), (0, 39), (1, 9), (1, 17))
+        ]
         self.assertEqual([len(it) for it in found], [3, 2, 1, 2])
 
     def test_outline(self) -> None:
-        found = self.talk(self.opened(BOOK), ("textDocument/documentSymbol", {"textDocument": {"uri": URI}}, 1))
-        names = [(it["name"], it["detail"]) for it in next(it for it in found if it.get("id") == 1)["result"]]
-        self.assertEqual(names, [("Desk", "party"), ("Bank", "party"), ("EUR", "asset"), ("FX", "num"), ("F", "flag"), ("T", "template"),
-                                 ("c", "contract")])  # fmt: skip
+        found = self.talk(
+            self.opened(BOOK), ("textDocument/documentSymbol", {"textDocument": {"uri": URI}}, 1)
+        )
+        names = [
+            (it["name"], it["detail"])
+            for it in next(it for it in found if it.get("id") == 1)["result"]
+        ]
+        wanted = "Desk party Bank party EUR asset FX num F flag T template c contract".split()
+        self.assertEqual(names, list(zip(wanted[::2], wanted[1::2])))
 
     def labels(self, text: str) -> list[str]:
         """What is completed at the end of a text."""
         lines = text.split("\n")
-        return [it["label"] for it in self.asked(text, "completion", len(lines) - 1, len(lines[-1].encode("utf-16-le")) // 2)]
+        return [
+            it["label"]
+            for it in self.asked(
+                text, "completion", len(lines) - 1, len(lines[-1].encode("utf-16-le")) // 2
+            )
+        ]
 
     def test_completion(self) -> None:
         head = BOOK[: BOOK.index("contract")]
-        self.assertEqual(self.labels(head + "contract d = "), ["zero", "pay", "both", "scale", "after", "let", "if"])
+        self.assertEqual(
+            self.labels(head + "contract d = "),
+            ["zero", "pay", "both", "scale", "after", "let", "if"],
+        )
         self.assertEqual(self.labels(head + "contract d = pay("), ["EUR"])
-        self.assertEqual(self.labels(head + "contract d = pay(EUR, # é € 𝄞\n  Ba"), ["Desk", "Bank"])
-        self.assertEqual(self.labels(head + "contract d = scale(round("), ["half_even", "half_away", "floor", "ceil"])
+        self.assertEqual(
+            self.labels(head + "contract d = pay(EUR, # é € 𝄞\n  Ba"), ["Desk", "Bank"]
+        )
+        self.assertEqual(
+            self.labels(head + "contract d = scale(round("),
+            ["half_even", "half_away", "floor", "ceil"],
+        )
         self.assertEqual(self.labels(head + "contract d = let y = 1 in scale(y")[-1], "y")
         self.assertEqual(self.labels(head), ["template", "contract"])
         self.assertEqual(self.labels(head + "# a"), [])
@@ -233,8 +311,12 @@ class Places(Session):
         [edit] = self.talk(self.opened(TEXT), ("textDocument/formatting", params, 1))[0]["result"]
         self.assertEqual(edit["newText"], LAID)
         self.assertEqual(edit["range"]["start"], {"line": 0, "character": 0})
-        self.assertEqual(self.talk(self.opened(LAID), ("textDocument/formatting", params, 1))[0]["result"], [])
-        self.assertIsNone(self.talk(self.opened("portfolio"), ("textDocument/formatting", params, 1))[0]["result"])
+        self.assertEqual(
+            self.talk(self.opened(LAID), ("textDocument/formatting", params, 1))[0]["result"], []
+        )
+        self.assertIsNone(
+            self.talk(self.opened("portfolio"), ("textDocument/formatting", params, 1))[0]["result"]
+        )
 
 
 class Protocol(Session):
@@ -249,32 +331,49 @@ class Protocol(Session):
             ("exit", {}),
         )
         self.assertTrue(answers[0]["result"]["capabilities"]["hoverProvider"])
-        self.assertEqual([it["error"]["code"] for it in answers[1:5]], [-32601, -32602, -32602, -32602])
+        self.assertEqual(
+            [it["error"]["code"] for it in answers[1:5]], [-32601, -32602, -32602, -32602]
+        )
         self.assertIsNone(answers[5]["result"])
 
     def test_a_request_that_fails_is_no_end_of_the_others(self) -> None:
         params = {"textDocument": {"uri": URI}, "options": {}}
         wrong = mock.patch.object(formatting, "formatted", side_effect=formatting.Changed("what"))
         with wrong:
-            found = self.talk(self.opened(TEXT), ("textDocument/formatting", params, 1), ("shutdown", {}, 2))
+            found = self.talk(
+                self.opened(TEXT), ("textDocument/formatting", params, 1), ("shutdown", {}, 2)
+            )
         answers = [it for it in found if "id" in it]
         self.assertEqual(answers[0]["error"], {"code": -32603, "message": "Changed: what"})
         self.assertIsNone(answers[1]["result"])
 
     def test_a_process(self) -> None:
-        """The command on its streams: an answer, and the status of an orderly end; rubbish ends it without a traceback."""
+        """The command on its streams: an answer, and the status of an orderly end; rubbish ends it
+        without a traceback.
+        """
         body = json.dumps({"jsonrpc": "2.0", "id": 1, "method": "shutdown"}).encode()
         leave = json.dumps({"jsonrpc": "2.0", "method": "exit"}).encode()
         framed = b"".join(b"Content-Length: %d\r\n\r\n" % len(it) + it for it in (body, leave))
-        rubbish = [b"", b"rubbish\n\n", b"Content-Length: 3\r\n\r\n{]}", b"Content-Length: 9\r\n\r\n[]"]
+        rubbish = [
+            b"", b"rubbish\n\n", b"Content-Length: 3\r\n\r\n{]}", b"Content-Length: 9\r\n\r\n[]"
+        ]
         rubbish.append(b"Content-Length: 200000\r\n\r\n" + b"[" * 200_000)
         for data, status in [(framed, 0), *((it, 1) for it in rubbish)]:
-            ran = subprocess.run([sys.executable, DESK / "tilugba-desk", "language-server"], input=data, capture_output=True)
+            ran = subprocess.run(
+                [sys.executable, DESK / "tilugba-desk", "language-server"],
+                input=data,
+                capture_output=True,
+            )
             self.assertEqual((ran.returncode, ran.stderr), (status, b""))
 
     def test_a_key_in_a_long_text(self) -> None:
-        """From a key in a contract of a text of 1 MB to the fault that the editor shows it takes at most 0.3 seconds of a quiet processor."""
-        line = "contract c{} = if (obs(FX, 0) > 1.1) within 3 then pay(EUR, Desk, Bank) else scale(2.00, pay(EUR, Bank, Desk)); # é\n"
+        """From a key in a contract of a text of 1 MB to the fault that the editor shows it takes at
+        most 0.3 seconds of a quiet processor.
+        """
+        line = (
+            "contract c{} = if (obs(FX, 0) > 1.1) within 3 then pay(EUR, Desk, Bank) else "
+            "scale(2.00, pay(EUR, Bank, Desk)); # é\n"
+        )
         text = BOOK + "".join(line.format(number) for number in range(9_000))
         self.assertGreater(len(text.encode()), 1_000_000)
         out = io.BytesIO()
@@ -285,8 +384,14 @@ class Protocol(Session):
         times = []
         # A letter more, and a letter less.
         for column, letter, faults in ((25, "x", 1), (26, "", 0)) * 3:
-            there = {"start": {"line": 5_000, "character": 25}, "end": {"line": 5_000, "character": column}}
-            change = {"textDocument": {"uri": URI, "version": 2}, "contentChanges": [{"range": there, "text": letter}]}
+            there = {
+                "start": {"line": 5_000, "character": 25},
+                "end": {"line": 5_000, "character": column},
+            }
+            change = {
+                "textDocument": {"uri": URI, "version": 2},
+                "contentChanges": [{"range": there, "text": letter}],
+            }
             start = time.process_time()
             server.take({"method": "textDocument/didChange", "params": change})
             server.show_changed()

@@ -20,39 +20,78 @@ class Lint(Room):
         if rows is not None:
             files.append(self.file("fix.csv", "label,day,value\n" + rows))
         ran = run_desk("lint", *files, *words)
-        return Ran(ran.status, ran.output.replace(f"{self.folder}/", ""), ran.errors.replace(f"{self.folder}/", ""))
+        return Ran(
+            ran.status,
+            ran.output.replace(f"{self.folder}/", ""),
+            ran.errors.replace(f"{self.folder}/", ""),
+        )
 
     def test_nothing_to_warn_of(self) -> None:
         self.assertEqual(self.lint(HEAD + USES, "FX,0,1.1\n"), Ran(0, "", ""))
 
     def test_warnings_of_a_book(self) -> None:
         for text, said in [
-            (HEAD + USES + "contract c = after(5, pay(EUR, A, B));", "book.txt:8:23: weekend: c pays on 2026-01-10, a Saturday"),
-            (HEAD + USES + "contract c = after(7, scale(round(floor, 2, obs(FX, -1)), pay(EUR, A, B)));",
-             "book.txt:8:45: weekend: c observes FX on 2026-01-11, a Sunday"),
-            (HEAD + USES + "contract c = both(pay(EUR, A, B), pay(EUR, B, B));", "book.txt:8:35: itself: B pays itself"),
+            (
+                HEAD + USES + "contract c = after(5, pay(EUR, A, B));",
+                "book.txt:8:23: weekend: c pays on 2026-01-10, a Saturday",
+            ),
+            (
+                f"{HEAD}{USES}"
+                "contract c = after(7, scale(round(floor, 2, obs(FX, -1)), pay(EUR, A, B)));",
+                "book.txt:8:45: weekend: c observes FX on 2026-01-11, a Sunday",
+            ),
+            (
+                HEAD + USES + "contract c = both(pay(EUR, A, B), pay(EUR, B, B));",
+                "book.txt:8:35: itself: B pays itself",
+            ),
             (HEAD + USES + "contract c = zero;", "book.txt:8:10: zero: c is zero"),
-            (HEAD + USES + "contract c = scale(0.00, pay(EUR, A, B));", "book.txt:8:10: nothing: c never pays anything: its total is 0"),
-            (HEAD.replace("A, B", "A, B, C") + USES, "book.txt:4:13: unused: no contract has the party C"),
-            (HEAD.replace("EUR", "EUR, USD") + USES, "book.txt:5:12: unused: no contract has the asset USD"),
+            (
+                HEAD + USES + "contract c = scale(0.00, pay(EUR, A, B));",
+                "book.txt:8:10: nothing: c never pays anything: its total is 0",
+            ),
+            (
+                HEAD.replace("A, B", "A, B, C") + USES,
+                "book.txt:4:13: unused: no contract has the party C",
+            ),
+            (
+                HEAD.replace("EUR", "EUR, USD") + USES,
+                "book.txt:5:12: unused: no contract has the asset USD",
+            ),
             (HEAD + "flag F;\n" + USES, "book.txt:7:6: unused: no contract has the label F"),
-            (HEAD + "template T = 3;\n" + USES, "book.txt:7:10: unused: no contract has the template T"),
-            (HEAD + USES + "contract c = let x = 1 in pay(EUR, A, B);", "book.txt:8:18: unused: nothing uses x, which `let` binds"),
+            (
+                HEAD + "template T = 3;\n" + USES,
+                "book.txt:7:10: unused: no contract has the template T",
+            ),
+            (
+                HEAD + USES + "contract c = let x = 1 in pay(EUR, A, B);",
+                "book.txt:8:18: unused: nothing uses x, which `let` binds",
+            ),
         ]:  # fmt: skip
             with self.subTest(text=text):
                 ran = self.lint(text)
                 self.assertEqual(ran.status, 1)
-                self.assertTrue(any(line.startswith(said) for line in ran.output.splitlines()), ran.output)
+                self.assertTrue(
+                    any(line.startswith(said) for line in ran.output.splitlines()), ran.output
+                )
                 self.assertEqual(len(ran.output.splitlines()), 1)
 
     def test_days_count_from_the_start(self) -> None:
-        ran = self.lint(HEAD.replace("party", "start 5;\nparty") + "contract c = scale(round(floor, 2, obs(FX, 0)), pay(EUR, A, B));")
+        ran = self.lint(
+            HEAD.replace("party", "start 5;\nparty")
+            + "contract c = scale(round(floor, 2, obs(FX, 0)), pay(EUR, A, B));"
+        )
         self.assertIn("c pays on 2026-01-10, a Saturday", ran.output)
 
     def test_days_that_may_be_several_are_passed_over(self) -> None:
-        ran = self.lint(HEAD + "contract c = if (obs(FX, 0) > 1) within 30 then pay(EUR, A, B) else zero;")
+        ran = self.lint(
+            HEAD + "contract c = if (obs(FX, 0) > 1) within 30 then pay(EUR, A, B) else zero;"
+        )
         self.assertEqual(ran.output, "")
-        bare = HEAD.replace("origin 2026-01-05;\n", "") + USES + "contract c = after(5, pay(EUR, A, B));"
+        bare = (
+            HEAD.replace("origin 2026-01-05;\n", "")
+            + USES
+            + "contract c = after(5, pay(EUR, A, B));"
+        )
         self.assertEqual(self.lint(bare).output, "")
 
     def test_holidays(self) -> None:
@@ -63,10 +102,26 @@ class Lint(Room):
     def test_warnings_of_a_table(self) -> None:
         wide = HEAD.replace("0.5000 .. 2.0000", "0.5000 .. 500.0000")
         for text, rows, said in [
-            (wide + USES, "FX,0,1.1\nFX,1,1.2\n", "book.txt:6:5: bounds: FX may be from 0.5000 to 500.0000"),
-            (HEAD + "flag F;\n" + USES, "FX,0,1.1\nF,0,true\n", "fix.csv:3:1: unread: no contract reads F"),
-            (HEAD + USES, "FX,0,1.1\nFX,46027,1.1\n", "fix.csv:3:4: day: day 46027 is 2026-01-05 as spreadsheets number days"),
-            (HEAD + USES, "FX,0,1.1\nFX,20000,1.1\n", "fix.csv:3:4: day: day 20000 is far from all days that contracts read"),
+            (
+                wide + USES,
+                "FX,0,1.1\nFX,1,1.2\n",
+                "book.txt:6:5: bounds: FX may be from 0.5000 to 500.0000",
+            ),
+            (
+                HEAD + "flag F;\n" + USES,
+                "FX,0,1.1\nF,0,true\n",
+                "fix.csv:3:1: unread: no contract reads F",
+            ),
+            (
+                HEAD + USES,
+                "FX,0,1.1\nFX,46027,1.1\n",
+                "fix.csv:3:4: day: day 46027 is 2026-01-05 as spreadsheets number days",
+            ),
+            (
+                HEAD + USES,
+                "FX,0,1.1\nFX,20000,1.1\n",
+                "fix.csv:3:4: day: day 20000 is far from all days that contracts read",
+            ),
         ]:
             with self.subTest(rows=rows):
                 self.assertIn(said, self.lint(text, rows).output)

@@ -1,4 +1,6 @@
-"""A night run's books, checksums and time limit. tests/operations runs it as a whole: by the program, a stand-in, and signals."""
+"""A night run's books, checksums and time limit. tests/operations runs it as a whole: by the
+program, a stand-in, and signals.
+"""
 
 import os
 import subprocess
@@ -24,17 +26,23 @@ class Books(unittest.TestCase):
             self.assertEqual(books.places_of_files(words), places, words)
 
     def test_words_without_a_place(self) -> None:
-        for words in ("flows", "fix.csv"), ("flows", "fix.csv", "--until", "{}"), ("sample", "{}"), ("no", "{}"):
+        for words in ("flows", "fix.csv"), ("flows", "fix.csv", "--until", "{}"), (
+            "sample", "{}"
+        ), ("no", "{}"):
             with self.assertRaises(Stop) as caught:
                 books.places_of_files(words)
             self.assertEqual(caught.exception.status, 70)
 
     def test_a_file_is_no_option(self) -> None:
         book = books.book_of("-x", ("flows", "{}", "--until", "{}"), [1])
-        self.assertEqual((book.words, book.files), (("flows", "./-x", "--until", "-x"), {1: "./-x"}))
+        self.assertEqual(
+            (book.words, book.files), (("flows", "./-x", "--until", "-x"), {1: "./-x"})
+        )
 
     def test_names_on_a_line(self) -> None:
-        for name, shown in ("a.txt", "a.txt"), ("a b", "'a b'"), ("a\nb", "$'a\\x0ab'"), ("\udcff", "$'\\xff'"), ("é'", "$'é\\x27'"):
+        for name, shown in ("a.txt", "a.txt"), ("a b", "'a b'"), ("a\nb", "$'a\\x0ab'"), (
+            "\udcff", "$'\\xff'"
+        ), ("é'", "$'é\\x27'"):
             self.assertEqual(books.shown(name), shown)
 
 
@@ -55,26 +63,59 @@ class Limits(Room):
         program = self.script("hangs", HANGS)
         book = self.file("book", "any\n")
         begin = time.monotonic()
-        ran = run_desk("night-run", "--program", program, "--seconds", "0.2", self.folder / "out", "check", "{}", "--", book)
+        ran = run_desk(
+            "night-run",
+            "--program",
+            program,
+            "--seconds",
+            "0.2",
+            self.folder / "out",
+            "check",
+            "{}",
+            "--",
+            book,
+        )
         self.assertLess(time.monotonic() - begin, 30)
-        self.assertEqual((ran.status, ran.output), (70, "book: status 70\n1 book: 0 done, 0 done before, 1 failed\n"))
+        self.assertEqual(
+            (ran.status, ran.output),
+            (70, "book: status 70\n1 book: 0 done, 0 done before, 1 failed\n"),
+        )
         self.assertEqual((self.folder / "out" / "book.fault").read_text(), "status 70\n")
 
     def test_a_count_on_a_terminal(self) -> None:
         """On a terminal it says how many books are done, and takes the line away at the end."""
-        program = self.script("slow", "#!/bin/sh\nif [ $1 = sample ]; then echo contracts 1; else sleep 0.3; fi\n")
+        program = self.script(
+            "slow", "#!/bin/sh\nif [ $1 = sample ]; then echo contracts 1; else sleep 0.3; fi\n"
+        )
         books = [self.file(f"{number}", "any\n") for number in range(3)]
-        words = ["night-run", "--program", program, "--jobs", "1", self.folder / "out", "check", "{}", "--", *books]
+        words = [
+            "night-run",
+            "--program",
+            program,
+            "--jobs",
+            "1",
+            self.folder / "out",
+            "check",
+            "{}",
+            "--",
+            *books,
+        ]
         screen, terminal = os.openpty()
-        ran = subprocess.run([DESK / "tilugba-desk", *words], stdout=subprocess.PIPE, stderr=terminal)
+        ran = subprocess.run(
+            [DESK / "tilugba-desk", *words], stdout=subprocess.PIPE, stderr=terminal
+        )
         os.close(terminal)
         seen = os.read(screen, 10_000).decode()
         os.close(screen)
-        self.assertEqual((ran.returncode, ran.stdout), (0, b"3 books: 3 done, 0 done before, 0 failed\n"))
+        self.assertEqual(
+            (ran.returncode, ran.stdout), (0, b"3 books: 3 done, 0 done before, 0 failed\n")
+        )
         self.assertRegex(seen, r"\rnight-run: [123] of 3 books, \d+ s")
         self.assertEqual(seen.split("\r")[-1], "")
 
     def test_words_that_do_not_do(self) -> None:
-        for words in (), ("out",), ("out", "check", "{}"), ("out", "check", "{}", "--"), ("--jobs", "0", "out", "check", "{}", "--", "b"):
+        for words in (), ("out",), ("out", "check", "{}"), ("out", "check", "{}", "--"), (
+            "--jobs", "0", "out", "check", "{}", "--", "b"
+        ):
             ran = run_desk("night-run", *words)
             self.assertEqual((ran.status, ran.output), (70, ""), words)

@@ -1,4 +1,6 @@
-"""The parser beside the program: the first fault of example texts and of random edits, and what may stand at its place."""
+"""The parser beside the program: the first fault of example texts and of random edits, and what may
+stand at its place.
+"""
 
 from __future__ import annotations
 
@@ -29,13 +31,18 @@ def told(reading: Reading, fault: Fault | None) -> Told | None:
 def some_edits(seed: int, count: int) -> list[tuple[Example, bytes]]:
     """Random edits, as many of each grammar."""
     chance = random.Random(seed)
-    kinds = [[it for it in examples() if it.grammar is grammar] for grammar in (PORTFOLIO, PORTFOLIO, CODE, SCHEDULES)]
+    kinds = [
+        [it for it in examples() if it.grammar is grammar]
+        for grammar in (PORTFOLIO, PORTFOLIO, CODE, SCHEDULES)
+    ]
     chosen = [chance.choice(chance.choice(kinds)) for _ in range(count)]
     return [(example, edited(example.data, chance)) for example in chosen]
 
 
 def compared(data: bytes, grammar: Grammar, judge: Judge) -> tuple[str, str]:
-    """The kind of the first fault and what may stand at its place, when the program says the same of both."""
+    """The kind of the first fault and what may stand at its place, when the program says the same
+    of both.
+    """
     reading = Reading(data, grammar)
     fault, mine = reading.fault, told(reading, reading.fault)
     says = judge.fault(data, grammar)
@@ -48,12 +55,17 @@ def compared(data: bytes, grammar: Grammar, judge: Judge) -> tuple[str, str]:
         found = judge.fault_with(before, written, grammar)
         stands = found is None or found.place != Place(line, 1)
         if stands != fault.offers.have(token_of(written)):
-            raise AssertionError(f"{written!r} {'may' if stands else 'may not'} stand at the end of {before!r}, but {fault.offers}")
+            raise AssertionError(
+                f"{written!r} {'may' if stands else 'may not'} stand at the end of {before!r}, but "
+                f"{fault.offers}"
+            )
     return fault.kind, f"{grammar.name}: {fault.offers.told(most=0)}"
 
 
 def bad_origins() -> list[tuple[Example, bytes]]:
-    """Each example that has an origin, with dates that are none or out of range: random edits hit few."""
+    """Each example that has an origin, with dates that are none or out of range: random edits hit
+    few.
+    """
     origin = re.compile(rb"(?<=origin )[0-9]{4}-[0-9]{2}-[0-9]{2}")
     dates = (b"2026-02-30", b"1899-12-31", b"3000-01-01")
     found = [it for it in examples() if origin.search(it.data)]
@@ -74,7 +86,9 @@ class BesideTheProgram(Room):
         for example in examples():
             with self.subTest(example=example.name):
                 reading = Reading(example.data, example.grammar)
-                self.assertEqual(told(reading, reading.fault), judge.fault(example.data, example.grammar))
+                self.assertEqual(
+                    told(reading, reading.fault), judge.fault(example.data, example.grammar)
+                )
 
     def test_random_edits(self) -> None:
         edits: dict[str, list[bytes]] = {it.name: [] for it in examples()}
@@ -95,9 +109,14 @@ class Remembered(unittest.TestCase):
         for example in examples():
             memory, data = Memory(), example.data
             for _ in range(8):
-                fresh, again = Reading(data, example.grammar), Reading(data, example.grammar, memory)
+                fresh, again = Reading(data, example.grammar), Reading(
+                    data, example.grammar, memory
+                )
                 with self.subTest(example=example.name, data=data):
-                    self.assertEqual([told(fresh, it) for it in fresh.faults()], [told(again, it) for it in again.faults()])
+                    self.assertEqual(
+                        [told(fresh, it) for it in fresh.faults()],
+                        [told(again, it) for it in again.faults()],
+                    )
                 data = edited(data, chance) if chance.random() < 0.7 else example.data
 
     def test_only_what_changed_is_read(self) -> None:
@@ -140,7 +159,9 @@ class Trees(unittest.TestCase):
         self.assertEqual(declared.names(NameSet.TEMPLATE)["T"].days, 30)
 
     def test_nodes_are_in_order_with_their_bytes(self) -> None:
-        statements = {it.name: (at, it) for at, it in self.reading.statements() if it.word == "contract"}
+        statements = {
+            it.name: (at, it) for at, it in self.reading.statements() if it.word == "contract"
+        }
         at, contract = statements["c"]
         nodes = [self.reading.text[at + it.at : at + it.end] for it in contract.term.nodes()]
         self.assertEqual(nodes[1:5], ["(obs(FX, -3) - -1.5)", "obs(FX, -3)", "-1.5", nodes[4]])
@@ -149,18 +170,24 @@ class Trees(unittest.TestCase):
         self.assertEqual(nodes[5:], [nodes[5], "(x > 1)", "x", "1", "pay(EUR, A, B)", "zero"])
 
     def test_arguments_and_bound_names(self) -> None:
-        at, contract = next((at, it) for at, it in self.reading.statements() if it.word == "contract")
+        at, contract = next(
+            (at, it) for at, it in self.reading.statements() if it.word == "contract"
+        )
         let, operation, read, number, after, choice, _, variable, *_ = contract.term.nodes()
-        self.assertEqual([it.told("binder", "operator", "label", "offset", "number") for it in (let, operation, read, number)],
-                         [["x"], ["-"], ["FX", "-3"], ["-1.5"]])  # fmt: skip
+        roles = ("binder", "operator", "label", "offset", "number")
+        told_by_each = [it.told(*roles) for it in (let, operation, read, number)]
+        self.assertEqual(told_by_each, [["x"], ["-"], ["FX", "-3"], ["-1.5"]])
         self.assertEqual(after.told("template", "days") + choice.told("days"), ["T", "5", "3"])
         self.assertEqual(variable.binder, let.arguments[0].at)
 
     def test_each_statement_has_its_own_fault(self) -> None:
-        text = BOOK.replace("party A, B;", "party A B;").replace("flag F;", "flag;") + "contract d = zer;\ncontract c = zero\n"
+        text = (
+            BOOK.replace("party A, B;", "party A B;").replace("flag F;", "flag;")
+            + "contract d = zer;\ncontract c = zero\n"
+        )
         reading = Reading(text.encode())
-        self.assertEqual([(it.kind, reading.source.place(it.at).line) for it in reading.faults()],
-                         [("syntax", 4), ("syntax", 7), ("unknown", 9), ("syntax", 10), ("twice", 11)])  # fmt: skip
+        found = [f"{it.kind} {reading.source.place(it.at).line}" for it in reading.faults()]
+        self.assertEqual(found, ["syntax 4", "syntax 7", "unknown 9", "syntax 10", "twice 11"])
 
 
 if __name__ == "__main__":

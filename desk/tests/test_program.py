@@ -49,7 +49,9 @@ class Runs(Room):
 
     def test_a_file_may_be_a_path(self) -> None:
         path = self.file("a book.txt", BOOK)
-        self.assertEqual(self.run_it("check", path).verdicts(), [Acceptance("c", "0", 2, "2.00", 1)])
+        self.assertEqual(
+            self.run_it("check", path).verdicts(), [Acceptance("c", "0", 2, "2.00", 1)]
+        )
 
     def causes(self, *words: str | bytes) -> tuple[int, object]:
         with self.assertRaises(Fault) as raised:
@@ -68,7 +70,11 @@ class Runs(Room):
             (("flows", BOOK), Status.MISSING, MissingFixing("FX", 0, None)),
             (("payoff", BOOK, "--contract", "d"), Status.UNKNOWN, UnknownName("d")),
             (("flows", BOOK, "--until", "2026-01-05"), Status.DAY, BadDay("2026-01-05")),
-            (("flows", BOOK.replace(b"round(half_even, 2, obs(FX, 0))", b"1.005")), Status.REFUSED, Refusal("c", "scale", 0)),
+            (
+                ("flows", BOOK.replace(b"round(half_even, 2, obs(FX, 0))", b"1.005")),
+                Status.REFUSED,
+                Refusal("c", "scale", 0),
+            ),
         ]
         for words, status, cause in cases:
             with self.subTest(words=words[0], status=status):
@@ -79,7 +85,9 @@ class Runs(Room):
         answer = self.run_it("check", text)
         self.assertEqual(answer.status, Status.REFUSED)
         self.assertEqual(answer.verdicts()[1], Refusal("fault", "sort", 0))
-        only = b"\n".join(BOOK.split(b"\n")[:5]) + b"\ncontract fault = scale(true, pay(EUR, A, B));\n"
+        only = (
+            b"\n".join(BOOK.split(b"\n")[:5]) + b"\ncontract fault = scale(true, pay(EUR, A, B));\n"
+        )
         self.assertIsNone(self.run_it("check", only).fault.cause)
 
     def test_check_of_no_text_has_no_verdicts(self) -> None:
@@ -91,7 +99,9 @@ class Runs(Room):
         words = ["--at", "0", "--from", "A", "--to", "B", "--asset", "EUR", "--mean", "floor"]
         table = b"scenario,label,day,value\nup,FX,1,1\n"
         curve = b"offset,factor\n0,1\n"
-        self.assertEqual(self.causes("scenarios", code, table, curve, *words), (8, MissingFixing("FX", 0, "up")))
+        self.assertEqual(
+            self.causes("scenarios", code, table, curve, *words), (8, MissingFixing("FX", 0, "up"))
+        )
         self.assertEqual(Fault(12, "fault scenarios 11").cause, TooManyScenarios(11))
 
 
@@ -123,7 +133,10 @@ class Others(Room):
         path = self.script("killed", "#!/bin/sh\nkill -9 $$\n")
         with self.assertRaises(Stop) as raised:
             Program(path).run("check")
-        self.assertEqual((raised.exception.status, raised.exception.message), (137, f"{path} was killed by signal SIGKILL"))
+        self.assertEqual(
+            (raised.exception.status, raised.exception.message),
+            (137, f"{path} was killed by signal SIGKILL"),
+        )
 
     def test_a_script_that_builds_no_program(self) -> None:
         path = self.script("wrapper", "#!/bin/sh\necho one >&2; echo rt is missing >&2; exit 70\n")

@@ -29,9 +29,25 @@ class Records(unittest.TestCase):
         self.assertEqual(b"".join(it.data for it in records(data)), data)
 
     def test_records_are_counted_as_the_program_does(self) -> None:
-        """Random tables: a record whose label is not declared is the program's record of that number."""
+        """Random tables: a record whose label is not declared is the program's record of that
+        number.
+        """
         run, chance = the_program().run, random.Random(7)
-        pieces = ["\n", "\r", "\r\n", "\n\n", ",", '"', '""', " ", "FX,1,1.0000\n", "FX,2,1\n", '"FX",3,"1"\n', '"F""X"\n', "\ufeff"]
+        pieces = [
+            "\n",
+            "\r",
+            "\r\n",
+            "\n\n",
+            ",",
+            '"',
+            '""',
+            " ",
+            "FX,1,1.0000\n",
+            "FX,2,1\n",
+            '"FX",3,"1"\n',
+            '"F""X"\n',
+            "\ufeff",
+        ]
         for _ in range(300):
             body = "".join(chance.choices(pieces, k=chance.randrange(12)))
             data = ("label,day,value\n" + body).encode()
@@ -47,16 +63,29 @@ class Records(unittest.TestCase):
 
 class Files(Room):
     def test_a_table_of_another_shape(self) -> None:
-        for text, said in [("a,b\n", "record 1 is not the header"), ("label,day,value\nFX,1\n", "record 2 does not have 3 fields")]:
+        for text, said in [
+            ("a,b\n", "record 1 is not the header"),
+            ("label,day,value\nFX,1\n", "record 2 does not have 3 fields"),
+        ]:
             with self.assertRaisesRegex(Stop, said):
                 tables.read(self.file("fix.csv", text), FIXINGS)
 
     def test_rows_by_label(self) -> None:
-        table = tables.rows_by_label(self.file("fix.csv", "label,day,value\nFX,2026-01-09,1.1\nF,2026-01-05,true\nFX,2026-01-12,1.2\n"))
+        table = tables.rows_by_label(
+            self.file(
+                "fix.csv",
+                "label,day,value\nFX,2026-01-09,1.1\nF,2026-01-05,true\nFX,2026-01-12,1.2\n",
+            )
+        )
         self.assertEqual((list(table.values), table.are_dates), (["FX", "F"], True))
         self.assertEqual(
             list(table.filled_lines())[1:5],
-            ["FX,2026-01-09,1.1\n", "FX,2026-01-10,1.1\n", "FX,2026-01-11,1.1\n", "FX,2026-01-12,1.2\n"],
+            [
+                "FX,2026-01-09,1.1\n",
+                "FX,2026-01-10,1.1\n",
+                "FX,2026-01-11,1.1\n",
+                "FX,2026-01-12,1.2\n",
+            ],
         )
         known = table.until(min(table.values["FX"]))
         self.assertEqual(len(known.values["FX"]), 1)

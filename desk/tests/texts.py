@@ -1,4 +1,6 @@
-"""The example texts of the four grammars, random edits of them, and what the program says of a text."""
+"""The example texts of the four grammars, random edits of them, and what the program says of a
+text.
+"""
 
 from __future__ import annotations
 
@@ -23,8 +25,36 @@ NUMBERS = ("0", "1", "7", "1.5", "0.25", "99999", "100001")
 NEW_NAME, DATE = "A_new_name", "2026-01-05"
 FAULT = re.compile(rb"fault text ([a-z0-9]+) line ([0-9]+) column ([0-9]+)\n")
 # What an edit puts in: tokens, and bytes that are none.
-TOKENS = [*WORDS, *tokens.MARKS, *NUMBERS, NEW_NAME, DATE, "1900-13-01", "00", "1.0000000000000000000000000001", "9" * 40]
-BYTES = [b" ", b"\n", b"\t", b"#", b"@", b'"', b".", b"-", b"!", b"_", b"x", b"1", b"\xc3\xa9", b"\xff", b"\xef\xbb\xbf", b"\0", b"\r"]
+TOKENS = [
+    *WORDS,
+    *tokens.MARKS,
+    *NUMBERS,
+    NEW_NAME,
+    DATE,
+    "1900-13-01",
+    "00",
+    "1.0000000000000000000000000001",
+    "9" * 40,
+]
+BYTES = [
+    b" ",
+    b"\n",
+    b"\t",
+    b"#",
+    b"@",
+    b'"',
+    b".",
+    b"-",
+    b"!",
+    b"_",
+    b"x",
+    b"1",
+    b"\xc3\xa9",
+    b"\xff",
+    b"\xef\xbb\xbf",
+    b"\0",
+    b"\r",
+]
 OTHER_NAMES = ["--at", "0", "--from", "zz", "--to", "zz", "--asset", "zz"]
 
 
@@ -37,8 +67,8 @@ class Told:
 
 
 class Judge:
-    """Asks the program for the fault of a text, many times a second: the text goes into one file, and
-    the answer into another.
+    """Asks the program for the fault of a text, many times a second: the text goes into one file,
+    and the answer into another.
     """
 
     def __init__(self, folder: Path) -> None:
@@ -60,7 +90,9 @@ class Judge:
         os.ftruncate(self.out, 0)
         os.lseek(self.out, 0, os.SEEK_SET)
         actions = [(os.POSIX_SPAWN_DUP2, self.out, 1)]
-        process = os.posix_spawn(self.program, [self.program, *self.words[grammar]], {}, file_actions=actions)
+        process = os.posix_spawn(
+            self.program, [self.program, *self.words[grammar]], {}, file_actions=actions
+        )
         status = os.waitstatus_to_exitcode(os.waitpid(process, 0)[1])
         if status != 6:
             return None
@@ -88,7 +120,8 @@ class Example:
 
 @cache
 def examples() -> tuple[Example, ...]:
-    """All texts of the examples and of the tests' cases, but for those of more than 30,000 bytes."""
+    """All texts of the examples and of the tests' cases, but for those of more than 30,000 bytes.
+    """
     folders = [EXAMPLES, CASES, TOP / "desk" / "tests" / "data"]
     paths = [path for folder in folders for path in sorted(folder.rglob("*")) if path.is_file()]
     found: dict[bytes, Example] = {}
@@ -111,7 +144,9 @@ def deep_code(depth: int) -> Example:
 def edited(data: bytes, chance: random.Random) -> bytes:
     """A text with one to three random edits."""
     for _ in range(chance.choice((1, 1, 1, 2, 3))):
-        data = chance.choice((edit_tokens, edit_tokens, edit_tokens, edit_bytes, edit_names, cut))(data, chance)
+        data = chance.choice((edit_tokens, edit_tokens, edit_tokens, edit_bytes, edit_names, cut))(
+            data, chance
+        )
     return data
 
 
@@ -139,7 +174,9 @@ def edit_tokens(data: bytes, chance: random.Random) -> bytes:
     if how == 3:
         return replaced(data, token, f"{token.text} {token.text}")
     between = data[token.end : other.at].decode("latin-1")
-    return data[: token.at] + (other.text + between + token.text).encode("latin-1") + data[other.end :]
+    return (
+        data[: token.at] + (other.text + between + token.text).encode("latin-1") + data[other.end :]
+    )
 
 
 def edit_bytes(data: bytes, chance: random.Random) -> bytes:
@@ -169,8 +206,12 @@ def cut(data: bytes, chance: random.Random) -> bytes:
 
 
 def candidates(reading: Reading) -> Iterator[str]:
-    """All words, marks, names that are declared or bound, a new name, numbers with and without a point, a date, and the end."""
-    names = dict.fromkeys(name for kind in NameSet for name in some(list(reading.declared.names(kind))))
+    """All words, marks, names that are declared or bound, a new name, numbers with and without a
+    point, a date, and the end.
+    """
+    names = dict.fromkeys(
+        name for kind in NameSet for name in some(list(reading.declared.names(kind)))
+    )
     names |= dict.fromkeys(some(list(reading.defined)))
     if reading.fault and "bound names" in reading.fault.offers.names:
         names |= dict.fromkeys(reading.fault.offers.names["bound names"])

@@ -1,4 +1,6 @@
-"""The lines of answers as rows. Each row is written again as its line, so the text of an answer is that of its rows."""
+"""The lines of answers as rows. Each row is written again as its line, so the text of an answer is
+that of its rows.
+"""
 
 from __future__ import annotations
 
@@ -49,7 +51,9 @@ class Position(NamedTuple):
 
 
 class Verdict(NamedTuple):
-    """What `check` says: an accepted contract has `start` (None: it never pays), `scale`, `total`, `horizon`; others `rule`, `node`."""
+    """What `check` says: an accepted contract has `start` (None: it never pays), `scale`, `total`,
+    `horizon`; others `rule`, `node`.
+    """
 
     name: str
     accepted: bool
@@ -65,7 +69,10 @@ class Verdict(NamedTuple):
         if not self.accepted:
             return f"{self.name} refused {self.rule} node {self.node}"
         start = "always" if self.start is None else self.start
-        return f"{self.name} accepted start {start} scale {self.scale} total {self.total:f} horizon {self.horizon}"
+        return (
+            f"{self.name} accepted start {start} scale {self.scale} total {self.total:f} horizon "
+            f"{self.horizon}"
+        )
 
 
 class Named(NamedTuple):
@@ -111,12 +118,19 @@ class Rows(list[Row]):
         return "".join(f"{row.line}\n" for row in self)
 
     def frame(self) -> pandas.DataFrame:
-        """A DataFrame of objects: amounts are `Decimal` and dates `datetime.date`, so nothing is rounded and no date is too late."""
+        """A DataFrame of objects: amounts are `Decimal` and dates `datetime.date`, so nothing is
+        rounded and no date is too late.
+        """
         try:
             import pandas
         except ImportError as error:
-            raise ImportError("a frame needs pandas, which is not installed: the rows themselves are a list of tuples") from error
-        return pandas.DataFrame.from_records(list(self), columns=list(self.kind._fields)).astype(object)
+            raise ImportError(
+                "a frame needs pandas, which is not installed: the rows themselves are a list of "
+                "tuples"
+            ) from error
+        return pandas.DataFrame.from_records(list(self), columns=list(self.kind._fields)).astype(
+            object
+        )
 
 
 class Advanced(NamedTuple):
@@ -132,7 +146,9 @@ class Advanced(NamedTuple):
 
 
 class Scenarios(NamedTuple):
-    """The value in each scenario in the order of the table, and their sum, their rounded mean, the least and the greatest."""
+    """The value in each scenario in the order of the table, and their sum, their rounded mean, the
+    least and the greatest.
+    """
 
     values: Rows[Named]
     total: Decimal
@@ -142,8 +158,8 @@ class Scenarios(NamedTuple):
 
     @property
     def text(self) -> str:
-        last = f"total,{self.total:f}\nmean,{self.mean:f}\nleast,{self.least.line}\ngreatest,{self.greatest.line}\n"
-        return self.values.text + last
+        sums = f"total,{self.total:f}\nmean,{self.mean:f}\n"
+        return f"{self.values.text}{sums}least,{self.least.line}\ngreatest,{self.greatest.line}\n"
 
 
 class Sample(NamedTuple):
@@ -201,7 +217,13 @@ def scenarios_of(text: str) -> Scenarios:
     """A scenario may have any name, so the last four lines are told by their place."""
     lines = text.splitlines()
     total, mean, least, greatest = (line.split(",", 1)[1] for line in lines[-4:])
-    return Scenarios(Rows(Named, map(named_of, lines[:-4])), Decimal(total), Decimal(mean), named_of(least), named_of(greatest))
+    return Scenarios(
+        Rows(Named, map(named_of, lines[:-4])),
+        Decimal(total),
+        Decimal(mean),
+        named_of(least),
+        named_of(greatest),
+    )
 
 
 def sample_of(text: str) -> Sample:

@@ -1,10 +1,11 @@
-"""The commands of the program as functions: texts and tables go in, rows with exact amounts come back.
+"""The commands of the program as functions: texts and tables go in, rows with exact amounts come
+back.
 
     flows = tilugba.flows(portfolio, fixings)
     flows[0].amount
 
-`bytes` and `str` are a text itself, a path is its file. A table is a text, rows or a DataFrame (`exact_tables`). What stops a call is
-raised (`errors`). Any number of threads may call at once.
+`bytes` and `str` are a text itself, a path is its file. A table is a text, rows or a DataFrame
+(`exact_tables`). What stops a call is raised (`errors`). Any number of threads may call at once.
 """
 
 from __future__ import annotations
@@ -51,12 +52,18 @@ class Calls:
     def __init__(self, engine: Engine) -> None:
         self.engine = engine
 
-    def run(self, words: Sequence[str | bytes], files: Mapping[str | bytes, Text] | None = None) -> Answer:
-        """The status and the bytes of a command, as the program has them. A file is named by the word for it; no other is opened."""
+    def run(
+        self, words: Sequence[str | bytes], files: Mapping[str | bytes, Text] | None = None
+    ) -> Answer:
+        """The status and the bytes of a command, as the program has them. A file is named by the
+        word for it; no other is opened.
+        """
         told = [os.fsdecode(word) for word in words]
         if any("\0" in word for word in told):
             raise ValueError("a word of a command line has no byte 0")
-        return self.engine.answer(told, {os.fsdecode(name): text_of(text) for name, text in (files or {}).items()})
+        return self.engine.answer(
+            told, {os.fsdecode(name): text_of(text) for name, text in (files or {}).items()}
+        )
 
     def _text(self, words: Sequence[str], texts: Sequence[bytes], also: int = Status.DONE) -> str:
         """What a command prints over texts that have the numbers of their places as names."""
@@ -77,21 +84,40 @@ class Calls:
 
     def check(self, portfolio: Text) -> Rows[Verdict]:
         """A verdict on each contract. A refused contract is no error here."""
-        return self._rows(Verdict, answer_rows.verdict_row, self._text(["check"], [opened(portfolio)], Status.REFUSED))
+        return self._rows(
+            Verdict,
+            answer_rows.verdict_row,
+            self._text(["check"], [opened(portfolio)], Status.REFUSED),
+        )
 
     def flows(
-        self, portfolio: Text, fixings: Table = None, *, until: Day | None = None, contract: str | None = None, net: bool = False
+        self,
+        portfolio: Text,
+        fixings: Table = None,
+        *,
+        until: Day | None = None,
+        contract: str | None = None,
+        net: bool = False,
     ) -> Rows[Flow]:
         """The payments of all contracts up to a day, of one contract, or netted."""
-        words = ["flows", *option("until", until), *option("contract", contract), *(["--net"] if net else [])]
+        words = [
+            "flows",
+            *option("until", until),
+            *option("contract", contract),
+            *(["--net"] if net else []),
+        ]
         return self._rows(Flow, answer_rows.flow_of, self._text(words, book(portfolio, fixings)))
 
-    def positions(self, portfolio: Text, fixings: Table = None, *, until: Day | None = None) -> Rows[Position]:
+    def positions(
+        self, portfolio: Text, fixings: Table = None, *, until: Day | None = None
+    ) -> Rows[Position]:
         """What each party is paid less what it pays, by day and asset, over all contracts."""
         text = self._text(["positions", *option("until", until)], book(portfolio, fixings))
         return self._rows(Position, answer_rows.position_of, text)
 
-    def settle(self, portfolio: Text, fixings: Table = None, *, until: Day | None = None) -> Rows[Flow]:
+    def settle(self, portfolio: Text, fixings: Table = None, *, until: Day | None = None) -> Rows[
+        Flow
+    ]:
         """Payments that settle these positions."""
         text = self._text(["settle", *option("until", until)], book(portfolio, fixings))
         return self._rows(Flow, answer_rows.flow_of, text)
@@ -101,9 +127,17 @@ class Calls:
         text = self._text(["advance", *option("to", to)], book(portfolio, fixings))
         return self._read(answer_rows.advanced_of, text)
 
-    def novate(self, portfolio: Text, fixings: Table, *, to: Day, contract: str, old: str, new: str) -> Advanced:
+    def novate(
+        self, portfolio: Text, fixings: Table, *, to: Day, contract: str, old: str, new: str
+    ) -> Advanced:
         """As `advance`, with a new party in the place of the old one in one contract."""
-        words = ["novate", *option("to", to), *option("contract", contract), *option("old", old), *option("new", new)]
+        words = [
+            "novate",
+            *option("to", to),
+            *option("contract", contract),
+            *option("old", old),
+            *option("new", new),
+        ]
         return self._read(answer_rows.advanced_of, self._text(words, book(portfolio, fixings)))
 
     def payoff(self, portfolio: Text, *, contract: str, plain: bool = False) -> str:
@@ -123,7 +157,9 @@ class Calls:
         receiver: str,
         asset: str,
     ) -> Decimal:
-        """What the payer is to pay the receiver in the asset from a day on, discounted. Settings have the days of templates."""
+        """What the payer is to pay the receiver in the asset from a day on, discounted. Settings
+        have the days of templates.
+        """
         words = ["value", *asked(at, payer, receiver, asset), *days_of(settings)]
         text = self._text(words, [opened(code), table(FIXINGS, fixings, 2), table(CURVE, curve, 3)])
         return self._read(lambda it: Decimal(it.removesuffix("\n")), text)
@@ -141,9 +177,18 @@ class Calls:
         asset: str,
         mean: Mode,
     ) -> Scenarios:
-        """That value in each scenario, their exact sum, their mean, rounded by the mode, and the least and the greatest."""
-        words = ["scenarios", *asked(at, payer, receiver, asset), *option("mean", mean), *days_of(settings)]
-        text = self._text(words, [opened(code), table(SCENARIOS, scenarios, 2), table(CURVE, curve, 3)])
+        """That value in each scenario, their exact sum, their mean, rounded by the mode, and the
+        least and the greatest.
+        """
+        words = [
+            "scenarios",
+            *asked(at, payer, receiver, asset),
+            *option("mean", mean),
+            *days_of(settings),
+        ]
+        text = self._text(
+            words, [opened(code), table(SCENARIOS, scenarios, 2), table(CURVE, curve, 3)]
+        )
         return self._read(answer_rows.scenarios_of, text)
 
     def migrate(self, portfolio: Text) -> str:
@@ -181,7 +226,9 @@ def option(name: str, value: Day | None) -> list[str]:
 
 
 def asked(at: Day, payer: str, receiver: str, asset: str) -> list[str]:
-    return [*option("at", at), *option("from", payer), *option("to", receiver), *option("asset", asset)]
+    return [
+        *option("at", at), *option("from", payer), *option("to", receiver), *option("asset", asset)
+    ]
 
 
 # ---- Other engines, and tables
@@ -198,27 +245,40 @@ def over_program(path: str | os.PathLike[str]) -> Calls:
 
 
 def limited(*, seconds: float | None = None, memory: int | None = None) -> Calls:
-    """The commands in a child for each call, which is ended after so many seconds and gets so many bytes: for texts of strangers."""
+    """The commands in a child for each call, which is ended after so many seconds and gets so many
+    bytes: for texts of strangers.
+    """
     return Calls(Limited(seconds, memory))
 
 
 def pool(workers: int | None = None) -> ProcessPoolExecutor:
-    """A pool of processes that begin anew (`spawn`): a library is not to be called in the forked child of a process with threads."""
+    """A pool of processes that begin anew (`spawn`): a library is not to be called in the forked
+    child of a process with threads.
+    """
     return ProcessPoolExecutor(workers, mp_context=multiprocessing.get_context("spawn"))
 
 
-def fixings_table(given: Table, *, mode: Mode | None = None, decimals: Mapping[str, int] | None = None) -> bytes:
-    """A table of fixings out of rows or a DataFrame. Floats are rounded by the mode to the decimals of their label."""
+def fixings_table(
+    given: Table, *, mode: Mode | None = None, decimals: Mapping[str, int] | None = None
+) -> bytes:
+    """A table of fixings out of rows or a DataFrame. Floats are rounded by the mode to the decimals
+    of their label.
+    """
     return table_of(FIXINGS, given, exact_tables.rounding_of(mode, decimals))
 
 
-def scenario_table(given: Table, *, mode: Mode | None = None, decimals: Mapping[str, int] | None = None) -> bytes:
+def scenario_table(
+    given: Table, *, mode: Mode | None = None, decimals: Mapping[str, int] | None = None
+) -> bytes:
     """A table of scenarios out of rows or a DataFrame, as `fixings_table`."""
     return table_of(SCENARIOS, given, exact_tables.rounding_of(mode, decimals))
 
 
-def curve_table(given: Table, *, mode: Mode | None = None, decimals: Mapping[str, int] | None = None) -> bytes:
-    """A curve out of rows or a DataFrame, as `fixings_table`: the decimals are those of `factor`."""
+def curve_table(
+    given: Table, *, mode: Mode | None = None, decimals: Mapping[str, int] | None = None
+) -> bytes:
+    """A curve out of rows or a DataFrame, as `fixings_table`: the decimals are those of `factor`.
+    """
     return table_of(CURVE, given, exact_tables.rounding_of(mode, decimals))
 
 

@@ -1,6 +1,8 @@
-"""Calls in a child with limits, for texts of strangers: a call cannot be interrupted, but a process can be ended.
+"""Calls in a child with limits, for texts of strangers: a call cannot be interrupted, but a process
+can be ended.
 
-The child reads the call from its standard input and writes the answer to its standard output, both as pickles of plain values.
+The child reads the call from its standard input and writes the answer to its standard output, both
+as pickles of plain values.
 """
 
 from __future__ import annotations
@@ -26,18 +28,26 @@ STATUS_OF_SPACE = "/proc/self/statm"
 
 @dataclass(frozen=True)
 class Limited:
-    """Runs each call in a child of its own that ends after so many seconds, and gets so many bytes of memory beyond what Python has."""
+    """Runs each call in a child of its own that ends after so many seconds, and gets so many bytes
+    of memory beyond what Python has.
+    """
 
     seconds: float | None = None
     memory: int | None = None
 
     def answer(self, words: Words, files: Files) -> Answer:
         pipes = {"stdin": subprocess.PIPE, "stdout": subprocess.PIPE, "stderr": subprocess.PIPE}
-        child = subprocess.Popen([sys.executable, "-c", BEGIN, PACKAGES], start_new_session=True, **pipes)
+        child = subprocess.Popen(
+            [sys.executable, "-c", BEGIN, PACKAGES], start_new_session=True, **pipes
+        )
         try:
-            output, said = child.communicate(pickle.dumps((list(words), dict(files), self.memory)), self.seconds)
+            output, said = child.communicate(
+                pickle.dumps((list(words), dict(files), self.memory)), self.seconds
+            )
         except subprocess.TimeoutExpired as error:
-            raise TimeLimit(f"the call was ended: it took more than {self.seconds:g} seconds") from error
+            raise TimeLimit(
+                f"the call was ended: it took more than {self.seconds:g} seconds"
+            ) from error
         finally:
             end(child)
         if child.returncode < 0:
@@ -60,7 +70,9 @@ def end(child: subprocess.Popen[bytes]) -> None:
 
 
 def limit_memory(more: int) -> None:
-    """So many bytes more than this process has now. What is refused beyond them is told as the status of a call."""
+    """So many bytes more than this process has now. What is refused beyond them is told as the
+    status of a call.
+    """
     with open(STATUS_OF_SPACE, encoding="ascii") as file:
         now = int(file.read().split()[0]) * resource.getpagesize()
     resource.setrlimit(resource.RLIMIT_AS, (now + more, now + more))

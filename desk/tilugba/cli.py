@@ -1,4 +1,6 @@
-"""The command `tilugba-desk`: finds a subcommand among the modules of `commands`, reads its words and runs it."""
+"""The command `tilugba-desk`: finds a subcommand among the modules of `commands`, reads its words
+and runs it.
+"""
 
 from __future__ import annotations
 
@@ -15,13 +17,20 @@ from . import commands
 from .desk import COMMAND, Desk
 from .program import VARIABLE, Status, Stop
 
-PURPOSE = "The desk beside the program Tilugba. It computes no money and gives no verdict: it asks the program. Nothing in it is proved."
+PURPOSE = (
+    "The desk beside the program Tilugba. It computes no money and gives no verdict: it asks the "
+    "program. Nothing in it is proved."
+)
 
 
 def names() -> list[str]:
     """The names of all subcommands."""
     files = (name for folder in commands.__path__ for name in os.listdir(folder))
-    return sorted(name.removesuffix(".py").replace("_", "-") for name in files if name.endswith(".py") and name != "__init__.py")
+    return sorted(
+        name.removesuffix(".py").replace("_", "-")
+        for name in files
+        if name.endswith(".py") and name != "__init__.py"
+    )
 
 
 def module_of(name: str) -> ModuleType:
@@ -41,7 +50,9 @@ def overview() -> argparse.ArgumentParser:
         prog=COMMAND,
         usage=f"{COMMAND} SUBCOMMAND [OPTION..] ..",
         description=PURPOSE,
-        epilog="subcommands:\n" + "\n".join(lines) + f"\n\n{COMMAND} SUBCOMMAND --help says more of one.",
+        epilog="subcommands:\n" + "\n".join(
+            lines
+        ) + f"\n\n{COMMAND} SUBCOMMAND --help says more of one.",
         formatter_class=Help,
         allow_abbrev=False,
     )
@@ -57,8 +68,8 @@ def seconds(text: str) -> float:
 
 
 class Help(argparse.RawDescriptionHelpFormatter):
-    """Help as wide as the terminal. For each argument `argparse` makes one, and for its width it loads
-    much of the standard library.
+    """Help as wide as the terminal. For each argument `argparse` makes one, and for its width it
+    loads much of the standard library.
     """
 
     def __init__(self, prog: str) -> None:
@@ -102,11 +113,21 @@ def parser_of(name: str, module: ModuleType) -> argparse.ArgumentParser:
 
 
 def add_program_options(parser: argparse.ArgumentParser, default: object) -> None:
-    """The options that each subcommand has; words of a word of it have them too, and leave to it what is not given."""
+    """The options that each subcommand has; words of a word of it have them too, and leave to it
+    what is not given.
+    """
     shared = parser.add_argument_group("the program")
-    said = f"the program to run; otherwise that of {VARIABLE}, one beside this command, or in the PATH"
+    said = (
+        f"the program to run; otherwise that of {VARIABLE}, one beside this command, or in the PATH"
+    )
     shared.add_argument("--program", metavar="PROGRAM", default=default, help=said)
-    shared.add_argument("--seconds", metavar="N", type=seconds, default=default, help="end a run of the program after N seconds")
+    shared.add_argument(
+        "--seconds",
+        metavar="N",
+        type=seconds,
+        default=default,
+        help="end a run of the program after N seconds",
+    )
 
 
 def run(words: Sequence[str], beside: Path) -> int:

@@ -1,4 +1,6 @@
-"""The commands of the program: which files, options and numbers each takes, and what is wrong with words that none takes."""
+"""The commands of the program: which files, options and numbers each takes, and what is wrong with
+words that none takes.
+"""
 
 from __future__ import annotations
 
@@ -12,10 +14,13 @@ from .texts.offers import whole_number
 from .texts.tokens import TOKEN
 
 DAY, NAME, MODE, FLAG = "DAY", "NAME", "MODE", ""
-BOOK, FIX, SCEN, CURVE, CODE_FILE, PLANS, NUMBER = "PORT", "FIX", "SCEN", "CURVE", "CODE", "PLANS", "NUMBER"
+BOOK, FIX, SCEN, CURVE, CODE_FILE, PLANS, NUMBER = (
+    "PORT", "FIX", "SCEN", "CURVE", "CODE", "PLANS", "NUMBER"
+)
 GRAMMARS: Mapping[str, Grammar] = {BOOK: PORTFOLIO, CODE_FILE: CODE, PLANS: SCHEDULES}
 MOST_DAYS, MOST_SAMPLE = 100_000, 10_000
-# The form of each command: what may be left out is in brackets, and what is in capitals is a file or
+# The form of each command: what may be left out is in brackets, and what is in capitals is a file
+# or
 # the value of an option.
 WRITTEN = (
     # made of commands.toml by tools/check-commands
@@ -49,7 +54,9 @@ def is_name(word: str) -> bool:
 
 # What each kind of value is, and how it is told.
 KINDS: Mapping[str, tuple[Callable[[str], bool], str]] = {
-    DAY: (is_day, "a day, which is a number of up to nine digits or a date that exists, as 2026-01-05"),
+    DAY: (
+        is_day, "a day, which is a number of up to nine digits or a date that exists, as 2026-01-05"
+    ),
     NAME: (is_name, "a name"),
     MODE: (MODES.__contains__, f"one of {', '.join(MODES)}"),
 }
@@ -190,7 +197,11 @@ def take_option(found: Words, word: str, rest: list[str]) -> None:
         value = rest.pop(0)
     is_kind, told = KINDS[kind]
     if not is_kind(value):
-        reserved = f", and {value} is a word of the language" if kind == NAME and value in tokens.RESERVED else ""
+        reserved = (
+            f", and {value} is a word of the language"
+            if kind == NAME and value in tokens.RESERVED
+            else ""
+        )
         raise WrongWords(f"{value or 'nothing'} behind {option} is not {told}{reserved}")
     found.options[option] = value
 
@@ -218,7 +229,9 @@ def take_setting(found: Words, word: str) -> None:
     name, sign, number = word.partition("=")
     days = whole_number(number, MOST_DAYS) if number.isascii() and number.isdigit() else None
     if not sign or not is_name(name) or days is None:
-        raise WrongWords(f"{word} is not T=N with the name of a template and a number of days up to 100,000")
+        raise WrongWords(
+            f"{word} is not T=N with the name of a template and a number of days up to 100,000"
+        )
     if name in found.settings:
         raise WrongWords(f"{name} is set twice")
     found.settings[name] = days

@@ -1,6 +1,7 @@
 """Days: numbers and dates, weekdays, holidays.
 
-A date is held as its ordinal, with 1 for 0001-01-01, as `datetime.date` counts. The years go from 0000 to 9999, as the program's do.
+A date is held as its ordinal, with 1 for 0001-01-01, as `datetime.date` counts. The years go from
+0000 to 9999, as the program's do.
 """
 
 from __future__ import annotations
@@ -63,7 +64,8 @@ class Day(NamedTuple):
 
 
 def day_of(text: str) -> Day | None:
-    """The day that a text is, as in a table: a number of up to nine digits, or a date that exists."""
+    """The day that a text is, as in a table: a number of up to nine digits, or a date that exists.
+    """
     if NUMBER.fullmatch(text):
         return Day(int(text))
     ordinal = ordinal_of(text)
@@ -71,7 +73,9 @@ def day_of(text: str) -> Day | None:
 
 
 class Calendar(NamedTuple):
-    """What the days of a portfolio are: dates from an origin on, if there is one, and those on which nobody pays."""
+    """What the days of a portfolio are: dates from an origin on, if there is one, and those on
+    which nobody pays.
+    """
 
     origin: int | None = None
     holidays: frozenset[int] = frozenset()
@@ -80,13 +84,16 @@ class Calendar(NamedTuple):
         return None if self.origin is None else self.origin + day
 
     def number(self, day: Day) -> int | None:
-        """The number of a day that is written either way, or nothing for a date without an origin."""
+        """The number of a day that is written either way, or nothing for a date without an origin.
+        """
         if not day.is_date:
             return day.number
         return None if self.origin is None else day.number - self.origin
 
     def text(self, day: int) -> str:
-        """The day as the program prints it: its date if there is an origin, and otherwise its number."""
+        """The day as the program prints it: its date if there is an origin, and otherwise its
+        number.
+        """
         ordinal = self.ordinal(day)
         return (ordinal is not None and date_text(ordinal)) or str(day)
 
@@ -94,7 +101,11 @@ class Calendar(NamedTuple):
         """The day in words: `2026-01-11 (day 6, a Sunday)`, or `day 6` without an origin."""
         ordinal = self.ordinal(day)
         date = None if ordinal is None else date_text(ordinal)
-        return f"{date} (day {day}, a {weekday_of(ordinal)})" if date and ordinal is not None else f"day {day}"
+        return (
+            f"{date} (day {day}, a {weekday_of(ordinal)})"
+            if date and ordinal is not None
+            else f"day {day}"
+        )
 
     def why_closed(self, day: int) -> str | None:
         """Why nobody pays on that day: `a Saturday`, `a holiday`; or nothing."""
@@ -107,14 +118,20 @@ class Calendar(NamedTuple):
 
 
 def read_holidays(path: str | Path) -> frozenset[int]:
-    """The ordinals of a file of holidays: a date a line; what stands behind it or behind `#` is left aside, and so are empty lines."""
+    """The ordinals of a file of holidays: a date a line; what stands behind it or behind `#` is
+    left aside, and so are empty lines.
+    """
     try:
         lines = Path(path).read_text(encoding="utf-8-sig").splitlines()
     except OSError as error:
         raise Stop(Status.UNREAD, f"{path}: {reason_of(error)}") from error
     except ValueError as error:
         raise Stop(Status.ROW, f"{path}: it is not UTF-8") from error
-    return frozenset(holiday_of(path, number, line) for number, line in enumerate(lines, 1) if line.split("#")[0].strip())
+    return frozenset(
+        holiday_of(path, number, line)
+        for number, line in enumerate(lines, 1)
+        if line.split("#")[0].strip()
+    )
 
 
 def holiday_of(path: str | Path, number: int, line: str) -> int:

@@ -1,4 +1,6 @@
-"""Exact decimals of lines. They are added and compared as they are written; one sum is divided by a count, by a stated mode."""
+"""Exact decimals of lines. They are added and compared as they are written; one sum is divided by a
+count, by a stated mode.
+"""
 
 from __future__ import annotations
 
@@ -32,7 +34,9 @@ def total(numbers: Iterable[Decimal]) -> Decimal:
 def mean(sum_of_all: Decimal, count: int, mode: str) -> Decimal:
     """The sum over the count, rounded once to the decimals of the sum."""
     places = decimals_of(sum_of_all)
-    return Decimal(quotient(int(EXACT.scaleb(sum_of_all, places)), count, mode)).scaleb(-places, EXACT)
+    return Decimal(quotient(int(EXACT.scaleb(sum_of_all, places)), count, mode)).scaleb(
+        -places, EXACT
+    )
 
 
 def quotient(top: int, below: int, mode: str) -> int:

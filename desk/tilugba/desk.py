@@ -46,7 +46,9 @@ class Desk:
 
     @cached_property
     def engine(self) -> Engine:
-        """What answers calls by the thousand: the library, unless a program or a limit is named, or there is no library."""
+        """What answers calls by the thousand: the library, unless a program or a limit is named, or
+        there is no library.
+        """
         from . import engines
 
         path = None if self.program_path or self.seconds else engines.library_path()
@@ -63,7 +65,9 @@ class Desk:
             out.flush()
         except OSError as error:
             give_up(out)
-            raise Stop(Status.NOT_WRITTEN, f"the output was not written whole: {reason_of(error)}") from error
+            raise Stop(
+                Status.NOT_WRITTEN, f"the output was not written whole: {reason_of(error)}"
+            ) from error
 
     def tell(self, lines: Iterable[str]) -> None:
         """Writes lines to standard error; what cannot be written there is lost."""
@@ -86,7 +90,8 @@ def encoded(text: str) -> bytes:
 
 
 def give_up(out: BinaryIO) -> None:
-    """What is left to write to a stream is lost, and Python does not try it once more at its end."""
+    """What is left to write to a stream is lost, and Python does not try it once more at its end.
+    """
     with suppress(OSError, ValueError):
         nowhere = os.open(os.devnull, os.O_WRONLY)
         os.dup2(nowhere, out.fileno())

@@ -1,6 +1,8 @@
-"""What answers a call: the library in this process, the program in one of its own, or either of them in a child with limits.
+"""What answers a call: the library in this process, the program in one of its own, or either of
+them in a child with limits.
 
-All take words and named files and give an `Answer`. No file is opened: one that was not named with its bytes cannot be read.
+All take words and named files and give an `Answer`. No file is opened: one that was not named with
+its bytes cannot be read.
 """
 
 from __future__ import annotations
@@ -46,7 +48,12 @@ class Library:
         return Library, (self.native.path,)
 
     def answer(self, words: Words, files: Files) -> Answer:
-        return Answer(*self.native.call([encoded(word) for word in words], [(encoded(name), text) for name, text in files.items()]))
+        return Answer(
+            *self.native.call(
+                [encoded(word) for word in words],
+                [(encoded(name), text) for name, text in files.items()],
+            )
+        )
 
 
 class Runs:
@@ -56,7 +63,9 @@ class Runs:
         self.program = run
 
     def answer(self, words: Words, files: Files) -> Answer:
-        """The program opens files by names of its own, so words that name files are exchanged for those."""
+        """The program opens files by names of its own, so words that name files are exchanged for
+        those.
+        """
         return self.program.run(*exchanged(words, files))
 
 
@@ -71,7 +80,9 @@ class ByProgram(Runs):
 
 
 def exchanged(words: Words, files: Files) -> list[str | bytes]:
-    """The words, with the bytes of its file in the place of each name. Of words that none takes no file is read."""
+    """The words, with the bytes of its file in the place of each name. Of words that none takes no
+    file is read.
+    """
     try:
         "".join(words).encode()
         form = command_line.read(words)
@@ -79,13 +90,18 @@ def exchanged(words: Words, files: Files) -> list[str | bytes]:
         return list(words)
     if form.command == "sample":
         return list(words)
-    options = [f"{option}={value}" if form.form.options[option] else option for option, value in form.options.items()]
+    options = [
+        f"{option}={value}" if form.form.options[option] else option
+        for option, value in form.options.items()
+    ]
     settings = [f"{name}={days}" for name, days in form.settings.items()]
     return [form.command, *(files.get(name, NOWHERE) for name in form.files), *options, *settings]
 
 
 def library_path() -> Path | None:
-    """The library that the environment names, that of the package, or that of the clone in which the package lies."""
+    """The library that the environment names, that of the package, or that of the clone in which
+    the package lies.
+    """
     if named := os.environ.get(LIBRARY_VARIABLE):
         return Path(named)
     if os.environ.get(program.VARIABLE):
@@ -119,4 +135,7 @@ def find() -> Engine:
     try:
         return ByProgram(program.find(None, HERE.parent))
     except Stop as stop:
-        raise NoAnswer(f"there is no library {native.FILE} either, by {LIBRARY_VARIABLE} or in the package; {stop.message}") from stop
+        raise NoAnswer(
+            f"there is no library {native.FILE} either, by {LIBRARY_VARIABLE} or in the package; "
+            f"{stop.message}"
+        ) from stop

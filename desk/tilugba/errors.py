@@ -1,4 +1,6 @@
-"""What stops a call, as exceptions: a class for each status of the program, with the parts of its line as attributes."""
+"""What stops a call, as exceptions: a class for each status of the program, with the parts of its
+line as attributes.
+"""
 
 from __future__ import annotations
 
@@ -11,7 +13,9 @@ from .texts.reading import Reading
 
 
 class TilugbaError(Exception):
-    """A call gave no answer. `status` is the program's exit status, and `fault` its line, which may be empty."""
+    """A call gave no answer. `status` is the program's exit status, and `fault` its line, which may
+    be empty.
+    """
 
     status: int = Status.DESK
 
@@ -30,7 +34,9 @@ def again(kind: type[TilugbaError], parts: dict[str, object]) -> TilugbaError:
 
 
 class Refused(TilugbaError):
-    """A contract, or code, is not accepted: `name`, `rule` (sort, time, scale, size or bound), `node`."""
+    """A contract, or code, is not accepted: `name`, `rule` (sort, time, scale, size or bound),
+    `node`.
+    """
 
     status = Status.REFUSED
     name: str
@@ -70,7 +76,9 @@ class ParseError(TilugbaError, ValueError):
 
 
 class RowError(TilugbaError, ValueError):
-    """A record of a table is refused: `place` of the table, `record` from 1, `kind`, and of a conflict the `earlier` record."""
+    """A record of a table is refused: `place` of the table, `record` from 1, `kind`, and of a
+    conflict the `earlier` record.
+    """
 
     status = Status.ROW
     place: int
@@ -80,7 +88,9 @@ class RowError(TilugbaError, ValueError):
 
 
 class MissingFixing(TilugbaError, LookupError):
-    """A fixing is missing: `label`, `day` as a number, `date` if there is an origin, and of `scenarios` the first `scenario` without it."""
+    """A fixing is missing: `label`, `day` as a number, `date` if there is an origin, and of
+    `scenarios` the first `scenario` without it.
+    """
 
     status = Status.MISSING
     label: str
@@ -144,7 +154,9 @@ KINDS[int(Status.NOT_WRITTEN)] = OutOfMemory
 
 
 def error_of(fault: Fault, text: bytes = b"") -> TilugbaError:
-    """The exception of a fault, with the date of a missing fixing if the text of the call has an origin."""
+    """The exception of a fault, with the date of a missing fixing if the text of the call has an
+    origin.
+    """
     kind = KINDS.get(fault.status, NoAnswer)
     parts = fault.cause._asdict() if fault.cause else {}
     if kind is MissingFixing:

@@ -1,8 +1,10 @@
-"""Tables out of rows and DataFrames, exactly: fixings, curves and sets of scenarios as the bytes that the program reads.
+"""Tables out of rows and DataFrames, exactly: fixings, curves and sets of scenarios as the bytes
+that the program reads.
 
-A table is long, with the columns of its header, or wide, with `day` (of scenarios also `scenario`) and a column for each label. In a wide
-table None and NaN mean that nothing is fixed. What is not exact is refused, with its row and its column: floats are rounded only by a mode
-and decimals that the caller names for the label.
+A table is long, with the columns of its header, or wide, with `day` (of scenarios also `scenario`)
+and a column for each label. In a wide table None and NaN mean that nothing is fixed. What is not
+exact is refused, with its row and its column: floats are rounded only by a mode and decimals that
+the caller names for the label.
 """
 
 from __future__ import annotations
@@ -11,12 +13,19 @@ import datetime
 import os
 from collections.abc import Iterable, Iterator, Mapping, Sequence
 from dataclasses import dataclass
-from decimal import ROUND_CEILING, ROUND_FLOOR, ROUND_HALF_EVEN, ROUND_HALF_UP, Decimal, localcontext
+from decimal import (
+    ROUND_CEILING, ROUND_FLOOR, ROUND_HALF_EVEN, ROUND_HALF_UP, Decimal, localcontext
+)
 from numbers import Integral
 
 from . import tables
 
-MODES = {"half_even": ROUND_HALF_EVEN, "half_away": ROUND_HALF_UP, "floor": ROUND_FLOOR, "ceil": ROUND_CEILING}
+MODES = {
+    "half_even": ROUND_HALF_EVEN,
+    "half_away": ROUND_HALF_UP,
+    "floor": ROUND_FLOOR,
+    "ceil": ROUND_CEILING,
+}
 # As many digits as a float has before its point, and more than a value has behind it.
 DIGITS = 400
 # Of pandas, which need not be there: what stands for nothing.
@@ -24,7 +33,9 @@ NOTHING = {"NAType", "NaTType"}
 
 
 class TableError(ValueError):
-    """A table is not exact, or not whole: `row`, from 1 without the header, and `column`, if it is one cell that is wrong."""
+    """A table is not exact, or not whole: `row`, from 1 without the header, and `column`, if it is
+    one cell that is wrong.
+    """
 
     def __init__(self, message: str, row: int | None = None, column: str | None = None) -> None:
         super().__init__(message if row is None else f"row {row}, column {column}: {message}")
@@ -36,7 +47,9 @@ class TableError(ValueError):
 
 @dataclass(frozen=True)
 class Kind:
-    """A kind of table: its header, the columns that a wide one keeps, and which of its columns holds the values."""
+    """A kind of table: its header, the columns that a wide one keeps, and which of its columns
+    holds the values.
+    """
 
     name: str
     header: tuple[str, ...]
@@ -51,7 +64,9 @@ CURVE = Kind("curve", tables.CURVE, value="factor")
 
 @dataclass(frozen=True)
 class Rounding:
-    """How floats are rounded: by a mode, to the decimals of their label; `factor` is the label of a curve."""
+    """How floats are rounded: by a mode, to the decimals of their label; `factor` is the label of a
+    curve.
+    """
 
     mode: str
     decimals: Mapping[str, int]
@@ -61,12 +76,16 @@ class Rounding:
             raise TableError(f"{self.mode} is no mode of rounding: it is one of {', '.join(MODES)}")
 
     def rounded(self, value: float, label: str) -> Decimal | None:
-        """The value of the float itself, which may not be the decimal that was typed, rounded once; nothing without decimals for it."""
+        """The value of the float itself, which may not be the decimal that was typed, rounded once;
+        nothing without decimals for it.
+        """
         if label not in self.decimals:
             return None
         with localcontext() as context:
             context.prec = DIGITS
-            return Decimal(value).quantize(Decimal(1).scaleb(-self.decimals[label]), rounding=MODES[self.mode])
+            return Decimal(value).quantize(
+                Decimal(1).scaleb(-self.decimals[label]), rounding=MODES[self.mode]
+            )
 
 
 def rounding_of(mode: str | None, decimals: Mapping[str, int] | None) -> Rounding | None:
@@ -79,7 +98,11 @@ def plain(cell: object) -> object:
     """A scalar of numpy as that of Python; nothing for None, NaN and what stands for them."""
     if type(cell).__module__ == "numpy" and hasattr(cell, "item"):
         cell = cell.item()
-    is_nothing = cell is None or type(cell).__name__ in NOTHING or (isinstance(cell, (float, Decimal)) and cell != cell)
+    is_nothing = (
+        cell is None
+        or type(cell).__name__ in NOTHING
+        or (isinstance(cell, (float, Decimal)) and cell != cell)
+    )
     return None if is_nothing else cell
 
 
@@ -123,10 +146,17 @@ class Cell:
             rounded = rounding.rounded(held, label)
             if rounded is not None:
                 return format(rounded, "f")
-            raise self.wrong(f"there are no decimals for {label}, to which {held!r} could be rounded")
+            raise self.wrong(
+                f"there are no decimals for {label}, to which {held!r} could be rounded"
+            )
         if isinstance(held, float) and not rounding:
-            raise self.wrong(f"{held!r} is a float and not exact: write Decimal('{held}'), or name a mode and decimals for {label}")
-        raise self.wrong(f"a value is a Decimal, a whole number, a bool or a text, and not {held!r}")
+            raise self.wrong(
+                f"{held!r} is a float and not exact: write Decimal('{held}'), or name a mode and "
+                f"decimals for {label}"
+            )
+        raise self.wrong(
+            f"a value is a Decimal, a whole number, a bool or a text, and not {held!r}"
+        )
 
 
 Columns = tuple[list[str], Iterable[Sequence[object]]]
@@ -138,7 +168,10 @@ def columns_of(kind: Kind, table: object) -> Columns:
         return columns_of_frame(kind, table)
     rows = list(table) if isinstance(table, Iterable) else None
     if rows is None or isinstance(table, Mapping):
-        raise TableError(f"a table of {kind.name} is a text, a list of rows or a DataFrame, and not {type(table).__name__}")
+        raise TableError(
+            f"a table of {kind.name} is a text, a list of rows or a DataFrame, and not "
+            f"{type(table).__name__}"
+        )
     if rows and isinstance(rows[0], Mapping):
         names = list(dict.fromkeys(name for row in rows for name in row))
         return names, [[row.get(name) for name in names] for row in rows]
@@ -152,7 +185,11 @@ def columns_of_frame(kind: Kind, frame: object) -> Columns:
     names = [name for name in frame.index.names if name is not None]
     if names:
         frame = frame.reset_index()
-    elif "day" in kind.kept and "day" not in frame.columns and type(frame.index).__name__ != "RangeIndex":
+    elif (
+        "day" in kind.kept
+        and "day" not in frame.columns
+        and type(frame.index).__name__ != "RangeIndex"
+    ):
         frame = frame.rename_axis("day").reset_index()
     return [str(name) for name in frame.columns], frame.itertuples(index=False, name=None)
 
@@ -165,30 +202,41 @@ def lines(kind: Kind, columns: Columns, rounding: Rounding | None) -> Iterator[l
     is_wide = bool(kind.kept) and set(kind.header) & set(names) == set(kind.kept)
     if len(set(names)) != len(names) or not (is_long or is_wide):
         wide = f", or {' and '.join(kind.kept)} with a column for each label" if kind.kept else ""
-        raise TableError(f"a table of {kind.name} has the columns {', '.join(kind.header)}{wide}, and not {', '.join(names)}")
+        raise TableError(
+            f"a table of {kind.name} has the columns {', '.join(kind.header)}{wide}, and not "
+            f"{', '.join(names)}"
+        )
     yield list(kind.header)
     for number, row in enumerate(rows, 1):
         held = list(row)
         if len(held) != len(names):
             raise TableError(f"row {number} has {len(held)} cells, and not {len(names)}")
         cells = {name: Cell(plain(cell), number, name) for name, cell in zip(names, held)}
-        yield from long_record(kind, cells, rounding) if is_long else wide_records(kind, cells, rounding)
+        yield from long_record(kind, cells, rounding) if is_long else wide_records(
+            kind, cells, rounding
+        )
 
 
-def long_record(kind: Kind, cells: Mapping[str, Cell], rounding: Rounding | None) -> Iterator[list[str]]:
+def long_record(kind: Kind, cells: Mapping[str, Cell], rounding: Rounding | None) -> Iterator[
+    list[str]
+]:
     written = []
     for name in kind.header:
         cell = cells[name]
         if cell.held is None:
             raise cell.wrong("there is nothing")
         if name == kind.value:
-            written.append(cell.value(cells["label"].name() if "label" in cells else name, rounding))
+            written.append(
+                cell.value(cells["label"].name() if "label" in cells else name, rounding)
+            )
         else:
             written.append(cell.name() if name in ("label", "scenario") else cell.day())
     yield written
 
 
-def wide_records(kind: Kind, cells: Mapping[str, Cell], rounding: Rounding | None) -> Iterator[list[str]]:
+def wide_records(kind: Kind, cells: Mapping[str, Cell], rounding: Rounding | None) -> Iterator[
+    list[str]
+]:
     """A record for each label that is fixed on the day of the row."""
     if "day" in cells and cells["day"].held is None:
         raise cells["day"].wrong("there is nothing")
@@ -204,7 +252,11 @@ def text_of(text: bytes | str | os.PathLike[str]) -> bytes:
     if isinstance(text, os.PathLike):
         with open(text, "rb") as file:
             return file.read()
-    return bytes(text) if isinstance(text, (bytes, bytearray, memoryview)) else text.encode("utf-8", "surrogateescape")
+    return (
+        bytes(text)
+        if isinstance(text, (bytes, bytearray, memoryview))
+        else text.encode("utf-8", "surrogateescape")
+    )
 
 
 def table_of(kind: Kind, table: object, rounding: Rounding | None = None) -> bytes:

@@ -1,7 +1,8 @@
-"""Lays a text out in lines of at most 100 columns. Tokens, comments and names stay as they are and in their order; only blanks change.
+"""Lays a text out in lines of at most 100 columns. Tokens, comments and names stay as they are and
+in their order; only blanks change.
 
-A statement is a document of pieces: tokens, comments, and places where a line may end. A group of them stands on one line if it fits, and
-else each of its places ends a line.
+A statement is a document of pieces: tokens, comments, and places where a line may end. A group of
+them stands on one line if it fits, and else each of its places ends a line.
 """
 
 from __future__ import annotations
@@ -19,10 +20,28 @@ from .texts.trees import Statement, Term
 WIDTH = 100
 STEP, DEEPEST = 2, 32
 COMMENT = re.compile(r"#[^\n]*")
-# Words before which a line may end, those behind whose parenthesis it may, and those behind which a parenthesis follows at once.
+# Words before which a line may end, those behind whose parenthesis it may, and those behind which a
+# parenthesis follows at once.
 BREAKS_BEFORE = ("then", "else", "against", "until")
 PAIRS = ("both", "add", "pay")
-CALLS = ("pay", "both", "add", "scale", "after", "cut", "obs", "model", "neg", "not", "min", "max", "widen", "round", "div", "acc")
+CALLS = (
+    "pay",
+    "both",
+    "add",
+    "scale",
+    "after",
+    "cut",
+    "obs",
+    "model",
+    "neg",
+    "not",
+    "min",
+    "max",
+    "widen",
+    "round",
+    "div",
+    "acc",
+)
 
 
 class Changed(Exception):
@@ -56,7 +75,9 @@ class Group:
 
 @dataclass(frozen=True, slots=True)
 class Comment:
-    """A comment, or an empty line as one without a text: its column, and whether it stood on a line of its own."""
+    """A comment, or an empty line as one without a text: its column, and whether it stood on a line
+    of its own.
+    """
 
     text: str
     column: int
@@ -79,7 +100,10 @@ def formatted(reading: Reading) -> str:
     for number in range(len(reading.segments)):
         end = reading.segments[number].end
         some = []
-        while at < len(written) and (written[at].token.at < end or number == len(reading.segments) - 1):
+        while (
+            at < len(written)
+            and (written[at].token.at < end or number == len(reading.segments) - 1)
+        ):
             some.append(written[at])
             at += 1
         lines += statement_lines(some, reading.read(number).statement, reading.segments[number].at)
@@ -93,7 +117,10 @@ def formatted(reading: Reading) -> str:
 def check(reading: Reading, laid: str) -> None:
     """The same tokens in the same order, and the same comments between them."""
     if marks_of(reading.source.data.decode("utf-8")) != marks_of(laid):
-        raise Changed("the layout would change the text: this is a mistake of the desk, and nothing is written")
+        raise Changed(
+            "the layout would change the text: this is a mistake of the desk, and nothing is "
+            "written"
+        )
 
 
 def marks_of(text: str) -> list[str]:
@@ -102,7 +129,9 @@ def marks_of(text: str) -> list[str]:
     found: list[str] = []
     at = 0
     for token in tokens.tokens(single):
-        found += [comment.rstrip() for comment in COMMENT.findall(single, at, token.at)] + [token.text]
+        found += [comment.rstrip() for comment in COMMENT.findall(single, at, token.at)] + [
+            token.text
+        ]
         at = token.end
     return found
 
@@ -139,12 +168,18 @@ def decoded(text: str) -> str:
 
 
 def statement_lines(some: list[Written], statement: Statement, base: int) -> list[str]:
-    """The lines of a statement, with the comments before it. One that stood behind the statement before begins with its column."""
+    """The lines of a statement, with the comments before it. One that stood behind the statement
+    before begins with its column.
+    """
     if not some:
         return []
     first = some[0]
     lines = [it.text if it.is_alone else f"\0{it.column} {it.text}" for it in first.comments]
-    return lines if first.token.kind == tokens.END else lines + list(printed(document_of(some, statement, base)))
+    return (
+        lines
+        if first.token.kind == tokens.END
+        else lines + list(printed(document_of(some, statement, base)))
+    )
 
 
 def merged(lines: list[str]) -> Iterator[str]:
@@ -183,12 +218,17 @@ def document_of(some: list[Written], statement: Statement, base: int) -> Group:
         token, term = written.token, terms.get(written.token.at)
         if number > 0:
             add_comments(open_groups[-1], written.comments)
-        is_call = last.text in CALLS or (last.text == "if" and terms[last.at].sort == trees.EXPRESSION)
+        is_call = (
+            last.text in CALLS or (last.text == "if" and terms[last.at].sort == trees.EXPRESSION)
+        )
         is_behind_sign = last.text == "-" and not is_operand_end(before)
         piece = Piece(token.text, number > 0 and has_blank(last, token, is_behind_sign, is_call))
         if term and is_of_words(term):
             open_group(open_groups, ends, Group(), base + term.end)
-        if token.text in BREAKS_BEFORE or (open_groups[-1].is_operation and token.text in OPERATORS and is_operand_end(last)):
+        if (
+            token.text in BREAKS_BEFORE
+            or (open_groups[-1].is_operation and token.text in OPERATORS and is_operand_end(last))
+        ):
             open_groups[-1].parts.append(Break())
         open_groups[-1].parts.append(piece)
         if token.text == "(":
@@ -216,7 +256,9 @@ def close(open_groups: list[Group], ends: list[int]) -> None:
 
 
 def add_comments(group: Group, comments: list[Comment]) -> None:
-    """Puts comments within a statement behind the token that they stood behind, or on lines of their own."""
+    """Puts comments within a statement behind the token that they stood behind, or on lines of
+    their own.
+    """
     for comment in comments:
         if not comment.text:
             continue
@@ -224,7 +266,9 @@ def add_comments(group: Group, comments: list[Comment]) -> None:
             group.parts.pop()
         if comment.is_alone:
             group.parts.append(Break(is_hard=True))
-        group.parts += [Piece(comment.text, not comment.is_alone, is_comment=True), Break(is_hard=True)]
+        group.parts += [
+            Piece(comment.text, not comment.is_alone, is_comment=True), Break(is_hard=True)
+        ]
 
 
 def is_of_words(term: Term) -> bool:
@@ -268,7 +312,9 @@ def printed(document: Group) -> Iterator[str]:
 
 
 def tail_of(stack: list[tuple[Piece | Break | Group, int, bool]]) -> int:
-    """The columns of what follows a group without a place where a line may end, such as closing parentheses."""
+    """The columns of what follows a group without a place where a line may end, such as closing
+    parentheses.
+    """
     columns = 0
     for part, _, is_flat in reversed(stack):
         if isinstance(part, Break) and not is_flat or isinstance(part, Group) or columns > WIDTH:
@@ -279,7 +325,9 @@ def tail_of(stack: list[tuple[Piece | Break | Group, int, bool]]) -> int:
 
 
 def fits(group: Group, room: int) -> bool:
-    """Whether the pieces of a group stand on one line of so many columns; a comment or a hard break stands on none."""
+    """Whether the pieces of a group stand on one line of so many columns; a comment or a hard break
+    stands on none.
+    """
     rest: list[Piece | Break | Group] = [group]
     while rest:
         part = rest.pop()

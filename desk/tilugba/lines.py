@@ -90,7 +90,9 @@ class Value:
 
 @dataclass(frozen=True)
 class Values:
-    """What `scenarios` prints: the value of each scenario, with these lines as they are, their sum and mean, the least and the greatest."""
+    """What `scenarios` prints: the value of each scenario, with these lines as they are, their sum
+    and mean, the least and the greatest.
+    """
 
     text: str
     each: list[Value]

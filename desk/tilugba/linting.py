@@ -1,4 +1,6 @@
-"""Warnings of what is right and probably not meant, in a portfolio and a table of fixings. Verdicts are the program's alone."""
+"""Warnings of what is right and probably not meant, in a portfolio and a table of fixings. Verdicts
+are the program's alone.
+"""
 
 from __future__ import annotations
 
@@ -19,13 +21,15 @@ from .texts.reads import Days, payments_of, placed, reads_of
 from .texts.tokens import Place
 from .texts.trees import Statement, Term
 
-# Bounds are wide if one is so many times what the table has; a day is far if it is so many days outside what contracts read.
+# Bounds are wide if one is so many times what the table has; a day is far if it is so many days
+# outside what contracts read.
 WIDE, FAR = 100, 3_660
 
 
 @dataclass(frozen=True, order=True)
 class Remark:
-    """A warning: the place of what it is about, a kind in one word, and what is probably not meant."""
+    """A warning: the place of what it is about, a kind in one word, and what is probably not meant.
+    """
 
     place: Place
     kind: str
@@ -55,12 +59,16 @@ class Book:
         self.reading = reading
         self.calendar = Calendar(reading.declared.origin, holidays)
         self.contracts = [
-            Contract(statement, base, statement.term) for base, statement in reading.statements() if statement.term is not None
+            Contract(
+                statement, base, statement.term
+            ) for base, statement in reading.statements() if statement.term is not None
         ]
 
     @cached_property
     def reads(self) -> dict[str, Days]:
-        """The labels that contracts may read, each with the first and the last day of a read, counted from the start."""
+        """The labels that contracts may read, each with the first and the last day of a read,
+        counted from the start.
+        """
         found: dict[str, Days] = {}
         for contract in self.contracts:
             for label, days in reads_of(contract.term, self.reading.declared):
@@ -96,12 +104,21 @@ def unused_names(book: Book) -> Iterator[Remark]:
         NameSet.LABEL: ("label",),
         NameSet.TEMPLATE: ("template",),
     }
-    used = {(it.role, it.text) for contract in book.contracts for term in contract.term.nodes() for it in term.arguments}
+    used = {
+        (it.role, it.text)
+        for contract in book.contracts
+        for term in contract.term.nodes()
+        for it in term.arguments
+    }
     for base, statement in book.reading.statements():
         kind = next((it for it in roles if statement.word in WORDS[it]), None)
         for declared in statement.declared if kind else ():
             if kind and not any((role, declared.name) in used for role in roles[kind]):
-                yield book.warning(base + declared.at, "unused", f"no contract has the {kind.value} {declared.name}")
+                yield book.warning(
+                    base + declared.at,
+                    "unused",
+                    f"no contract has the {kind.value} {declared.name}",
+                )
 
 
 WORDS = {
@@ -119,14 +136,20 @@ def unused_bindings(book: Book) -> Iterator[Remark]:
         for term in contract.term.nodes():
             binder = term.arguments[0] if term.form in ("let", "acc") else None
             if binder and binder.at not in used:
-                yield book.warning(contract.base + binder.at, "unused", f"nothing uses {binder.text}, which `{term.form}` binds")
+                yield book.warning(
+                    contract.base + binder.at,
+                    "unused",
+                    f"nothing uses {binder.text}, which `{term.form}` binds",
+                )
 
 
 # ---- days
 
 
 def closed_days(book: Book, contract: Contract) -> Iterator[Remark]:
-    """Payments and observations of one day that is a weekend or a holiday. What may be on any of several days is passed over."""
+    """Payments and observations of one day that is a weekend or a holiday. What may be on any of
+    several days is passed over.
+    """
     declared = book.reading.declared
     for payment in payments_of(contract.term, declared):
         if payment.days.first == payment.days.last:
@@ -134,14 +157,22 @@ def closed_days(book: Book, contract: Contract) -> Iterator[Remark]:
     for found in placed(contract.term, declared):
         if found.term.form == "obs" and found.days.first == found.days.last:
             day = found.days.first + int(found.term.told("offset")[0])
-            yield from closed_day(book, contract, found.term, day, f"observes {found.term.told('label')[0]}")
+            yield from closed_day(
+                book, contract, found.term, day, f"observes {found.term.told('label')[0]}"
+            )
 
 
-def closed_day(book: Book, contract: Contract, term: Term, from_start: int, does: str) -> Iterator[Remark]:
+def closed_day(book: Book, contract: Contract, term: Term, from_start: int, does: str) -> Iterator[
+    Remark
+]:
     day = book.day(from_start)
     if why := book.calendar.why_closed(day):
         kind = "holiday" if why == "a holiday" else "weekend"
-        yield book.warning(contract.base + term.at, kind, f"{contract.name} {does} on {book.calendar.text(day)}, {why}")
+        yield book.warning(
+            contract.base + term.at,
+            kind,
+            f"{contract.name} {does} on {book.calendar.text(day)}, {why}",
+        )
 
 
 # ---- payments
@@ -151,7 +182,11 @@ def own_payments(book: Book, contract: Contract) -> Iterator[Remark]:
     """A party that pays itself."""
     for term in contract.term.nodes():
         if term.form == "pay" and term.told("payer") == term.told("receiver"):
-            yield book.warning(contract.base + term.at, "itself", f"{term.told('payer')[0]} pays itself, which is no flow")
+            yield book.warning(
+                contract.base + term.at,
+                "itself",
+                f"{term.told('payer')[0]} pays itself, which is no flow",
+            )
 
 
 def empty_contracts(book: Book, verdicts: Iterable[Verdict]) -> Iterator[Remark]:
@@ -162,14 +197,18 @@ def empty_contracts(book: Book, verdicts: Iterable[Verdict]) -> Iterator[Remark]
         if contract.term.form == "zero":
             yield book.warning(at, "zero", f"{contract.name} is zero, so nothing is left of it")
         elif contract.name in nothing:
-            yield book.warning(at, "nothing", f"{contract.name} never pays anything: its total is 0")
+            yield book.warning(
+                at, "nothing", f"{contract.name} never pays anything: its total is 0"
+            )
 
 
 # ---- the table
 
 
 def table_warnings(book: Book, table: Table) -> list[Remark]:
-    """The warnings of a table of fixings that goes with the book, but for those of bounds, which have places in the book."""
+    """The warnings of a table of fixings that goes with the book, but for those of bounds, which
+    have places in the book.
+    """
     found = []
     told: set[str] = set()
     for record in list(records(table.data))[1:]:
@@ -182,16 +221,22 @@ def table_warnings(book: Book, table: Table) -> list[Remark]:
 
 
 def far_day(book: Book, table: Table, record: Record) -> Iterator[Remark]:
-    """A day that is far outside the days that contracts read, as a spreadsheet's number of a date is."""
+    """A day that is far outside the days that contracts read, as a spreadsheet's number of a date
+    is.
+    """
     day = record.texts[1]
     if not day.lstrip("-").isdigit():
         return
     first = min((it.first for it in book.reads.values()), default=0)
     last = max((it.last for it in book.reads.values()), default=0)
     if not book.day(first) - FAR <= int(day) <= book.day(last) + FAR:
-        alone = Table(table.file, table.role, table.book, b"label,day,value\n" + record.data, table.declared)
+        alone = Table(
+            table.file, table.role, table.book, b"label,day,value\n" + record.data, table.declared
+        )
         serial = serial_date(alone, record.texts[0], book.calendar)
-        why = serial.partition("which is ")[2] if serial else "far from all days that contracts read"
+        why = (
+            serial.partition("which is ")[2] if serial else "far from all days that contracts read"
+        )
         yield Remark(Place(record.line, len(record.fields[0]) + 2), "day", f"day {day} is {why}")
 
 
@@ -219,7 +264,8 @@ def too_wide(label: Declared, values: list[Decimal]) -> str | None:
         return None
     low, high = number_told(label.low, label.decimals), number_told(label.high, label.decimals)
     return (
-        f"{label.name} may be from {low} to {high}, and in {counted(len(values), 'record')} of the table it is from {min(values)}"
+        f"{label.name} may be from {low} to {high}, and in {counted(len(values), 'record')} of the "
+        f"table it is from {min(values)}"
         f" to {max(values)}: totals count the bounds"
     )
 

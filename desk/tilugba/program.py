@@ -1,7 +1,9 @@
-"""Finds the program and runs it: an answer with a status and a text. The one place that knows statuses and fault lines.
+"""Finds the program and runs it: an answer with a status and a text. The one place that knows
+statuses and fault lines.
 
-A run that does not end with 0 is a `Fault` with its cause, by `Answer.fault` or, raised, by `Answer.expected`. A program that is
-missing, hangs or is killed is a `Stop` with a message of one line.
+A run that does not end with 0 is a `Fault` with its cause, by `Answer.fault` or, raised, by
+`Answer.expected`. A program that is missing, hangs or is killed is a `Stop` with a message of one
+line.
 """
 
 from __future__ import annotations
@@ -63,7 +65,8 @@ class LongFile(NamedTuple):
 
 
 class BadText(NamedTuple):
-    """A text does not parse: the kind of the fault, its line, and its column in bytes, both from 1."""
+    """A text does not parse: the kind of the fault, its line, and its column in bytes, both from 1.
+    """
 
     kind: str
     line: int
@@ -83,7 +86,8 @@ class BadDay(NamedTuple):
 
 
 class Refusal(NamedTuple):
-    """A contract, or code, is not accepted: the rule that it breaks, and the node at which it does."""
+    """A contract, or code, is not accepted: the rule that it breaks, and the node at which it does.
+    """
 
     name: str
     rule: str
@@ -123,7 +127,18 @@ class Acceptance(NamedTuple):
     horizon: int
 
 
-Cause = UnreadFile | LongFile | BadText | UnknownName | BadDay | Refusal | BadRow | MissingFixing | TooManyScenarios | None
+Cause = (
+    UnreadFile
+    | LongFile
+    | BadText
+    | UnknownName
+    | BadDay
+    | Refusal
+    | BadRow
+    | MissingFixing
+    | TooManyScenarios
+    | None
+)
 Verdict = Acceptance | Refusal
 
 # What is said of a fault that has no line.
@@ -156,7 +171,9 @@ LINES: Mapping[int, tuple[str, Callable[..., Cause]]] = {
     Status.DAY: (r"fault day (.+)", BadDay),
     Status.ROW: (
         rf"fault row file {COUNT} record {COUNT} ([a-z]+)(?: with {COUNT})?",
-        lambda place, record, kind, earlier: BadRow(int(place), int(record), kind, int(earlier) if earlier else None),
+        lambda place, record, kind, earlier: BadRow(
+            int(place), int(record), kind, int(earlier) if earlier else None
+        ),
     ),
     Status.MISSING: (
         rf"fault missing {WORD} (-?[0-9]+)(?: in {WORD})?",
@@ -167,10 +184,14 @@ LINES: Mapping[int, tuple[str, Callable[..., Cause]]] = {
 
 
 class Fault(Stop):
-    """What a run says that did not end with 0: its status, its line, which may be empty, and the cause that the line tells."""
+    """What a run says that did not end with 0: its status, its line, which may be empty, and the
+    cause that the line tells.
+    """
 
     def __init__(self, status: int, line: str) -> None:
-        super().__init__(status, line or MEANINGS.get(status, f"the program ended with status {status}"))
+        super().__init__(
+            status, line or MEANINGS.get(status, f"the program ended with status {status}")
+        )
         self.line = line
         form, cause_of = LINES.get(status, ("", None))
         told = re.fullmatch(form, line)
@@ -178,7 +199,9 @@ class Fault(Stop):
 
 
 class Answer(NamedTuple):
-    """How a run ended: its status, what it printed, and what it said on standard error, which the program leaves empty."""
+    """How a run ended: its status, what it printed, and what it said on standard error, which the
+    program leaves empty.
+    """
 
     status: int
     output: bytes
@@ -190,7 +213,9 @@ class Answer(NamedTuple):
 
     @property
     def fault(self) -> Fault | None:
-        """The fault, if the status is not 0. Of `check` with 1 it has no line, and the verdicts are the output."""
+        """The fault, if the status is not 0. Of `check` with 1 it has no line, and the verdicts are
+        the output.
+        """
         if self.status == Status.DONE:
             return None
         line = self.text.rstrip("\n")
@@ -219,27 +244,40 @@ def verdict_of(line: str) -> Verdict:
 
 
 class Program(NamedTuple):
-    """The program at a path, and after how many seconds a run is ended; without a number it may take as long as it needs."""
+    """The program at a path, and after how many seconds a run is ended; without a number it may
+    take as long as it needs.
+    """
 
     path: Path
     seconds: float | None = None
 
     def run(self, *words: str | os.PathLike[str] | bytes) -> Answer:
-        """Runs the program on words. Bytes are the contents of a file: the program gets a name for them."""
+        """Runs the program on words. Bytes are the contents of a file: the program gets a name for
+        them.
+        """
         with file_names(words) as (named, handles):
             status, output, said = self.ended([os.fspath(self.path), *named], handles)
         if status < 0:
-            raise Stop(status_of(status), f"{self.path} was killed by signal {signal_name(-status)}")
+            raise Stop(
+                status_of(status), f"{self.path} was killed by signal {signal_name(-status)}"
+            )
         if status == Status.DESK:
             raise Stop(Status.DESK, f"{self.path} gave no answer{last_line(said)}")
         return Answer(status, output, said)
 
     def ended(self, words: list[str], handles: list[int]) -> tuple[int, bytes, bytes]:
-        """Runs words to their end: the status, and what was written. A run that is given up ends with all that it started."""
+        """Runs words to their end: the status, and what was written. A run that is given up ends
+        with all that it started.
+        """
         pipe = subprocess.PIPE
         try:
             process = subprocess.Popen(
-                words, stdin=subprocess.DEVNULL, stdout=pipe, stderr=pipe, pass_fds=handles, start_new_session=True
+                words,
+                stdin=subprocess.DEVNULL,
+                stdout=pipe,
+                stderr=pipe,
+                pass_fds=handles,
+                start_new_session=True,
             )
         except (OSError, ValueError) as error:
             raise Stop(Status.DESK, f"{self.path} does not start: {reason_of(error)}") from error
@@ -247,7 +285,9 @@ class Program(NamedTuple):
             output, said = process.communicate(timeout=self.seconds)
         except subprocess.TimeoutExpired as error:
             end(process)
-            raise Stop(Status.DESK, f"{self.path} was ended: it took more than {self.seconds:g} seconds") from error
+            raise Stop(
+                Status.DESK, f"{self.path} was ended: it took more than {self.seconds:g} seconds"
+            ) from error
         except BaseException:
             end(process)
             raise
@@ -258,7 +298,9 @@ class Program(NamedTuple):
         return subprocess.Popen([self.path, *words], stdin=subprocess.DEVNULL, stdout=output)
 
     def wait(self, process: subprocess.Popen[bytes]) -> int:
-        """The status of a run that was started, where a signal counts 128 more than its number, and 70 is one that took too long."""
+        """The status of a run that was started, where a signal counts 128 more than its number, and
+        70 is one that took too long.
+        """
         try:
             return status_of(process.wait(self.seconds))
         except subprocess.TimeoutExpired:
@@ -296,8 +338,12 @@ def last_line(said: bytes) -> str:
 
 
 @contextmanager
-def file_names(words: Sequence[str | os.PathLike[str] | bytes]) -> Iterator[tuple[list[str], list[int]]]:
-    """The words, with names for those that are bytes, and the handles by which these names are opened."""
+def file_names(words: Sequence[str | os.PathLike[str] | bytes]) -> Iterator[
+    tuple[list[str], list[int]]
+]:
+    """The words, with names for those that are bytes, and the handles by which these names are
+    opened.
+    """
     handles: list[int] = []
     try:
         yield [file_name(word, handles) for word in words], handles
@@ -317,19 +363,27 @@ def file_name(word: str | os.PathLike[str] | bytes, handles: list[int]) -> str:
 
 
 def find(named: str | None, beside: Path, seconds: float | None = None) -> Program:
-    """The program that is named, or else that of the environment, one beside the command, in its clone, or in the PATH."""
+    """The program that is named, or else that of the environment, one beside the command, in its
+    clone, or in the PATH.
+    """
     if given := named or os.environ.get(VARIABLE):
         found = None if os.sep in given else first_program(in_path(given))
         return Program(found or Path(given).absolute(), seconds)
     if found := first_program(candidates(beside)):
         return Program(found, seconds)
     built = f"; in a clone, ./{NAME} builds it" if is_clone(beside.parent) else ""
-    raise Stop(Status.DESK, f"there is no program {NAME}: name it by --program or {VARIABLE}, or put it into the PATH{built}")
+    raise Stop(
+        Status.DESK,
+        f"there is no program {NAME}: name it by --program or {VARIABLE}, or put it into the "
+        f"PATH{built}",
+    )
 
 
 def first_program(paths: Iterable[Path]) -> Path | None:
     """The first of them that can be run."""
-    return next((path.absolute() for path in paths if path.is_file() and os.access(path, os.X_OK)), None)
+    return next(
+        (path.absolute() for path in paths if path.is_file() and os.access(path, os.X_OK)), None
+    )
 
 
 def in_path(name: str) -> Iterator[Path]:
@@ -341,7 +395,9 @@ def is_clone(folder: Path) -> bool:
 
 
 def candidates(beside: Path) -> Iterator[Path]:
-    """Where the program may be. The script of a clone is none of them: it builds first, which takes an hour."""
+    """Where the program may be. The script of a clone is none of them: it builds first, which takes
+    an hour.
+    """
     yield beside / NAME
     if is_clone(beside.parent):
         yield beside.parent / "built" / NAME

@@ -104,7 +104,9 @@ def sum_of_desk() -> str:
 
 
 def add(path: Path, receipt: Receipt) -> None:
-    """Adds a receipt to a file, behind those that it has. A file with something else stays as it is."""
+    """Adds a receipt to a file, behind those that it has. A file with something else stays as it
+    is.
+    """
     if has_no_receipts(path):
         raise Stop(Status.NOT_WRITTEN, f"{path} is there, and is no file of receipts")
     try:

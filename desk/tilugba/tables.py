@@ -1,6 +1,8 @@
-"""Tables: fixings, curves, sets of scenarios. They are read as the program reads them, kept byte for byte, and written.
+"""Tables: fixings, curves, sets of scenarios. They are read as the program reads them, kept byte
+for byte, and written.
 
-`read` has the records of any table. `rows_by_label` has fixings by label and day, for commands that go through days.
+`read` has the records of any table. `rows_by_label` has fixings by label and day, for commands that
+go through days.
 """
 
 from __future__ import annotations
@@ -33,7 +35,9 @@ RECORD = re.compile(rb"(?!\Z)" + FIELD + rb"(?:," + FIELD + rb")*+[\r\n]*+")
 
 
 class Record(NamedTuple):
-    """A record: its number from 1 on with the header, the line on which it begins, its fields, and its bytes with the line end."""
+    """A record: its number from 1 on with the header, the line on which it begins, its fields, and
+    its bytes with the line end.
+    """
 
     number: int
     line: int
@@ -46,7 +50,9 @@ class Record(NamedTuple):
 
 
 def records(data: bytes) -> Iterator[Record]:
-    """The records of a table, whatever they say. A line without a byte is none, and a byte order mark is passed over."""
+    """The records of a table, whatever they say. A line without a byte is none, and a byte order
+    mark is passed over.
+    """
     at = first_at(data)
     line, counted, number = 1, 0, 0
     while at < len(data):
@@ -64,7 +70,8 @@ def first_at(data: bytes) -> int:
 
 
 def records_numbered(data: bytes, numbers: Collection[int]) -> dict[int, Record]:
-    """Those of these numbers, as `records` has them. The others are only counted, which is faster."""
+    """Those of these numbers, as `records` has them. The others are only counted, which is faster.
+    """
     found: dict[int, Record] = {}
     for number, it in enumerate(RECORD.finditer(data, first_at(data)), 1):
         if number in numbers:
@@ -89,7 +96,9 @@ def record_at(data: bytes, at: int) -> tuple[list[bytes], int]:
 
 
 def field_at(data: bytes, at: int) -> tuple[bytes, int]:
-    """What the field says that begins here, and where it ends. In quotes two quotes are one, and what follows them belongs to it."""
+    """What the field says that begins here, and where it ends. In quotes two quotes are one, and
+    what follows them belongs to it.
+    """
     if not data.startswith(b'"', at):
         found = UNQUOTED.match(data, at)
         return found[0], found.end()
@@ -103,7 +112,8 @@ def field_at(data: bytes, at: int) -> tuple[bytes, int]:
 
 
 def read_whole(path: str | Path, header: tuple[str, ...]) -> tuple[bytes, Record, list[Record]]:
-    """The byte order mark of a file or nothing, its header, and the records below it, each with as many fields.
+    """The byte order mark of a file or nothing, its header, and the records below it, each with as
+    many fields.
 
     What is otherwise ends the command.
     """
@@ -113,7 +123,9 @@ def read_whole(path: str | Path, header: tuple[str, ...]) -> tuple[bytes, Record
         raise Stop(Status.ROW, f"{path}: record 1 is not the header {','.join(header)}")
     for record in found[1:]:
         if len(record.fields) != len(header):
-            raise Stop(Status.ROW, f"{path}: record {record.number} does not have {len(header)} fields")
+            raise Stop(
+                Status.ROW, f"{path}: record {record.number} does not have {len(header)} fields"
+            )
     return MARK if data.startswith(MARK) else b"", found[0], found[1:]
 
 
@@ -140,11 +152,18 @@ class DayTable:
 
     def until(self, last: int) -> DayTable:
         """The rows up to a day; a label without one is left out."""
-        known = {label: {day: it for day, it in values.items() if day <= last} for label, values in self.values.items()}
-        return DayTable({label: values for label, values in known.items() if values}, self.are_dates)
+        known = {
+            label: {day: it for day, it in values.items() if day <= last}
+            for label, values in self.values.items()
+        }
+        return DayTable(
+            {label: values for label, values in known.items() if values}, self.are_dates
+        )
 
     def filled_lines(self, to: int | None = None) -> Iterator[str]:
-        """The lines of a table with a row for each day, in which the last values hold up to a day, if one is named."""
+        """The lines of a table with a row for each day, in which the last values hold up to a day,
+        if one is named.
+        """
         yield ",".join(FIXINGS) + "\n"
         for label, values in self.values.items():
             last = max(values) if to is None else max(max(values), to)
@@ -153,7 +172,9 @@ class DayTable:
 
 
 def filled(values: dict[int, str], last: int) -> Iterator[tuple[int, str]]:
-    """Each day from the first to the last, with its value or that of the last day before it that has one."""
+    """Each day from the first to the last, with its value or that of the last day before it that
+    has one.
+    """
     value = values[min(values)]
     for day in range(min(values), last + 1):
         value = values.get(day, value)

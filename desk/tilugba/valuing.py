@@ -21,10 +21,19 @@ class Question:
     def of(cls, arguments: argparse.Namespace) -> Question:
         return cls(arguments.payer, arguments.receiver, arguments.asset)
 
-    def value(self, program: Program, code: str | bytes, fixings: str | bytes, curve: str | bytes, day: str) -> str:
+    def value(
+        self,
+        program: Program,
+        code: str | bytes,
+        fixings: str | bytes,
+        curve: str | bytes,
+        day: str,
+    ) -> str:
         """The value on a day, as it was printed. Files are named, or are bytes."""
         asked = ("--at", day, "--from", self.payer, "--to", self.receiver, "--asset", self.asset)
-        told = program.run("value", code, fixings, curve, *asked).expected().decode("utf-8", "replace").removesuffix("\n")
+        told = program.run("value", code, fixings, curve, *asked).expected().decode(
+            "utf-8", "replace"
+        ).removesuffix("\n")
         if not VALUE.fullmatch(told):
             first, _, _ = told.partition("\n")
             raise Stop(Status.DESK, f"no value: {first}")
@@ -33,6 +42,10 @@ class Question:
 
 def add_question(parser: argparse.ArgumentParser) -> None:
     """The options that make a question."""
-    parser.add_argument("--from", dest="payer", metavar="P", required=True, help="the party that is to pay")
-    parser.add_argument("--to", dest="receiver", metavar="Q", required=True, help="the party that is to get it")
+    parser.add_argument(
+        "--from", dest="payer", metavar="P", required=True, help="the party that is to pay"
+    )
+    parser.add_argument(
+        "--to", dest="receiver", metavar="Q", required=True, help="the party that is to get it"
+    )
     parser.add_argument("--asset", metavar="A", required=True, help="in which asset")

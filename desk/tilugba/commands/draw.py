@@ -1,12 +1,13 @@
 """A picture of a table, as an SVG that gnuplot draws.
 
-TABLE has a header. If its first column is `month`, each further column is a row of bars. If it is `day`, each is a line in steps; days are
-all numbers or all dates. If it is `value`, as `histogram` prints it, the bars of a step go from its beginning to the next one. TITLE is above
-the picture, and is its title for browsers and screen readers; --unit names the unit of amounts on its axis. A comment in PICTURE has the
-checksum of TABLE, so that it can be seen of which table it is.
+TABLE has a header. If its first column is `month`, each further column is a row of bars. If it is
+`day`, each is a line in steps; days are all numbers or all dates. If it is `value`, as `histogram`
+prints it, the bars of a step go from its beginning to the next one. TITLE is above the picture, and
+is its title for browsers and screen readers; --unit names the unit of amounts on its axis. A
+comment in PICTURE has the checksum of TABLE, so that it can be seen of which table it is.
 
-Ends with 0; 3 if TABLE is not read; 4 if PICTURE is not written; 7 if TABLE is no such table; 69 if gnuplot is not installed, and 70 if
-it draws nothing.
+Ends with 0; 3 if TABLE is not read; 4 if PICTURE is not written; 7 if TABLE is no such table; 69 if
+gnuplot is not installed, and 70 if it draws nothing.
 """
 
 from __future__ import annotations
@@ -68,7 +69,9 @@ def configure(parser: argparse.ArgumentParser) -> None:
     parser.add_argument("table", metavar="TABLE", help="a table by month, value or day")
     parser.add_argument("picture", metavar="PICTURE", help="the file of the picture")
     parser.add_argument("title", metavar="TITLE", help="what is above it")
-    parser.add_argument("--unit", metavar="UNIT", default="", help="the unit of the amounts, such as EUR")
+    parser.add_argument(
+        "--unit", metavar="UNIT", default="", help="the unit of the amounts, such as EUR"
+    )
 
 
 def run(arguments: argparse.Namespace, desk: Desk) -> int:
@@ -80,7 +83,9 @@ def run(arguments: argparse.Namespace, desk: Desk) -> int:
     if drawn.returncode != 0 or b"</svg>" not in drawn.stdout:
         raise Stop(Status.DESK, "gnuplot draws nothing")
     mark = f"<!-- of a table with the sha256 sum {hashlib.sha256(table.data).hexdigest()} -->\n"
-    picture = drawn.stdout.replace(b"<title>picture</title>", f"<title>{escape(one_line(arguments.title))}</title>".encode())
+    picture = drawn.stdout.replace(
+        b"<title>picture</title>", f"<title>{escape(one_line(arguments.title))}</title>".encode()
+    )
     try:
         Path(arguments.picture).write_bytes(picture.rstrip() + b"\n" + mark.encode())
     except (OSError, ValueError) as error:
@@ -106,9 +111,15 @@ def read_table(path: str) -> Table:
     data = read_file(path)
     lines = data.decode("utf-8", "replace").splitlines()
     columns = lines[0].count(",") + 1 if lines else 0
-    is_table = columns and HEADER.fullmatch(lines[0]) and all(ROW.fullmatch(it) and it.count(",") + 1 == columns for it in lines[1:])
+    is_table = (
+        columns
+        and HEADER.fullmatch(lines[0])
+        and all(ROW.fullmatch(it) and it.count(",") + 1 == columns for it in lines[1:])
+    )
     if not is_table or len(lines) < 2 or "'" in path:
-        raise Stop(Status.ROW, f"{path}: it is no table by month, value or day, or has a ' in its name")
+        raise Stop(
+            Status.ROW, f"{path}: it is no table by month, value or day, or has a ' in its name"
+        )
     return Table(path, data, lines, columns)
 
 
@@ -120,7 +131,11 @@ def one_line(text: str) -> str:
 def script_of(table: Table, title: str, unit: str) -> str:
     """What gnuplot is told."""
     # A picture of small amounts has decimals at its side, and one line needs no name.
-    decimals = 0 if any(abs(float(it)) >= GREAT for line in table.lines[1:] for it in line.split(",")[1:]) else 2
+    decimals = (
+        0
+        if any(abs(float(it)) >= GREAT for line in table.lines[1:] for it in line.split(",")[1:])
+        else 2
+    )
     key = "outside bottom center horizontal noenhanced" if table.columns > 2 else "off"
     across, up = axes(table, unit)
     return ALIKE % (title, across, up, decimals, key) + plot_of(table)
@@ -133,14 +148,18 @@ def axes(table: Table, unit: str) -> tuple[str, str]:
     if kind == "value":
         return f"value{of_unit}", names[0]
     years = sorted({it[:4] for it in table.firsts() if "-" in it[1:]})
-    across = f"day of {' to '.join(sorted({years[0], years[-1]}))}" if years and kind == "day" else kind
+    across = (
+        f"day of {' to '.join(sorted({years[0], years[-1]}))}" if years and kind == "day" else kind
+    )
     return across, f"{names[0]}{of_unit}" if len(names) == 1 else unit
 
 
 def plot_of(table: Table) -> str:
     kind, firsts = table.lines[0].split(",")[0], table.firsts()
     if kind == "day":
-        return (STEPS_OF_DATES if "-" in firsts[0][1:] else STEPS_OF_NUMBERS) % (table.columns, table.path)
+        return (STEPS_OF_DATES if "-" in firsts[0][1:] else STEPS_OF_NUMBERS) % (
+            table.columns, table.path
+        )
     if kind == "value" and len(firsts) > 1:
         width = int(firsts[1]) - int(firsts[0])
         return BARS_OF_STEPS % (width, table.columns, table.path, width)
@@ -149,7 +168,9 @@ def plot_of(table: Table) -> str:
 
 
 def month_name(text: str, is_first: bool) -> str:
-    """A month in words, with its year if it is the first of the picture or of the year; a value stays."""
+    """A month in words, with its year if it is the first of the picture or of the year; a value
+    stays.
+    """
     year, _, month = text.rpartition("-")
     if not re.fullmatch("[0-9]{4}", year):
         return text

@@ -1,11 +1,11 @@
 """Runs a command of the program, and explains a fault: the place, what may stand there, a cure.
 
-If the command ends with 0, what it prints goes through and nothing else is said. Otherwise nothing is printed on standard output, but
-`check` with 1 keeps its verdicts; the explanation is on standard error, in lines FILE:LINE:COLUMN: KIND by which editors jump. The status
-is that of the program.
+If the command ends with 0, what it prints goes through and nothing else is said. Otherwise nothing
+is printed on standard output, but `check` with 1 keeps its verdicts; the explanation is on standard
+error, in lines FILE:LINE:COLUMN: KIND by which editors jump. The status is that of the program.
 
-With --receipt FILE a line of JSON is added to FILE: the words; name, size and SHA-256 of each file, of the program and of what it printed;
-status, fault, time. `verify` compares them.
+With --receipt FILE a line of JSON is added to FILE: the words; name, size and SHA-256 of each file,
+of the program and of what it printed; status, fault, time. `verify` compares them.
 """
 
 from __future__ import annotations
@@ -21,9 +21,17 @@ from ..files import read_file
 
 
 def configure(parser: argparse.ArgumentParser) -> None:
-    parser.usage = "tilugba-desk explain [--program PROGRAM] [--seconds N] [--receipt FILE] COMMAND FILE.. [OPTION..]"
+    parser.usage = (
+        "tilugba-desk explain [--program PROGRAM] [--seconds N] [--receipt FILE] COMMAND FILE.. "
+        "[OPTION..]"
+    )
     parser.add_argument("--receipt", metavar="FILE", type=Path, help="add a receipt to this file")
-    parser.add_argument("words", nargs=argparse.REMAINDER, metavar="COMMAND FILE..", help="the words of a command of the program")
+    parser.add_argument(
+        "words",
+        nargs=argparse.REMAINDER,
+        metavar="COMMAND FILE..",
+        help="the words of a command of the program",
+    )
 
 
 def run(arguments: argparse.Namespace, desk: Desk) -> int:
@@ -46,7 +54,9 @@ def run(arguments: argparse.Namespace, desk: Desk) -> int:
 
 
 def with_receipt(path: Path, words: list[str], kept: dict[str, bytes], desk: Desk) -> Answer:
-    """The answer over the bytes of the files as they are read here, of which the receipt has the sums."""
+    """The answer over the bytes of the files as they are read here, of which the receipt has the
+    sums.
+    """
     from ..command_line import WrongWords, read
     from ..engines import exchanged
     from ..receipts import Sum, add, of_program
@@ -62,7 +72,12 @@ def with_receipt(path: Path, words: list[str], kept: dict[str, bytes], desk: Des
     files = [Sum.of(name, kept[name]) if name in kept else Sum(name) for name in names]
     fault = answer.fault.line if answer.fault else None
     program = Sum.of_file(desk.program.path)
-    add(path, of_program(words, files, program, Sum.of(None, answer.output), answer.status, fault or None))
+    add(
+        path,
+        of_program(
+            words, files, program, Sum.of(None, answer.output), answer.status, fault or None
+        ),
+    )
     return answer
 
 

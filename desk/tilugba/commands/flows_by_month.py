@@ -1,11 +1,12 @@
 """What each party gets month by month in an asset, from payments with dates.
 
-LINES is a file of flow lines, as `flows` prints them of a portfolio with an origin. Prints a table: the header `month,PARTY,..` with the
-parties of the asset in the order in which the lines first name them, and a row for each month from the first to the last one with a
-payment. An amount is what the party gets in the month less what it pays, exactly.
+LINES is a file of flow lines, as `flows` prints them of a portfolio with an origin. Prints a table:
+the header `month,PARTY,..` with the parties of the asset in the order in which the lines first name
+them, and a row for each month from the first to the last one with a payment. An amount is what the
+party gets in the month less what it pays, exactly.
 
-Ends with 0; 3 if LINES is not read; 4 if the output is not written whole; 7 if a line is no flow line with a date, or no line pays the
-asset.
+Ends with 0; 3 if LINES is not read; 4 if the output is not written whole; 7 if a line is no flow
+line with a date, or no line pays the asset.
 """
 
 from __future__ import annotations
@@ -33,7 +34,9 @@ def run(arguments: argparse.Namespace, desk: Desk) -> int:
     nothing = decimals.total(it.amount * 0 for it in payments)
     got: dict[tuple[str, str], Decimal] = {}
     for payment in payments:
-        for party, amount in (payment.payer, payment.amount.copy_negate()), (payment.receiver, payment.amount):
+        for party, amount in (payment.payer, payment.amount.copy_negate()), (
+            payment.receiver, payment.amount
+        ):
             at = month_of(payment), party
             got[at] = decimals.added(got.get(at, nothing), amount)
     parties = dict.fromkeys(party for it in payments for party in (it.payer, it.receiver))

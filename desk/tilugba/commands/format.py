@@ -1,8 +1,9 @@
 """Lays a text out in lines of at most 100 columns.
 
-FILE is a portfolio, a code file or a schedule file. Tokens, comments and names stay as they are and in their order; only blanks change,
-which is checked before anything is written. A comment or a token that is longer keeps its line. Prints the text; with --in-place it
-takes the place of FILE. A text with a fault is not touched: the fault is told as by `explain`, with status 6.
+FILE is a portfolio, a code file or a schedule file. Tokens, comments and names stay as they are and
+in their order; only blanks change, which is checked before anything is written. A comment or a
+token that is longer keeps its line. Prints the text; with --in-place it takes the place of FILE. A
+text with a fault is not touched: the fault is told as by `explain`, with status 6.
 """
 
 from __future__ import annotations

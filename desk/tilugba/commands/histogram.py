@@ -1,11 +1,12 @@
 """How many scenarios have a value of which size.
 
-LINES is what `scenarios` prints. Values are counted in steps of WIDTH, a whole number: the step of a value begins at the greatest multiple
-of WIDTH that is not above it. Prints a table for `draw`: the header `value,scenarios`, and a row for each step from the least to the
-greatest value, with its beginning and its count.
+LINES is what `scenarios` prints. Values are counted in steps of WIDTH, a whole number: the step of
+a value begins at the greatest multiple of WIDTH that is not above it. Prints a table for `draw`:
+the header `value,scenarios`, and a row for each step from the least to the greatest value, with its
+beginning and its count.
 
-Ends with 0; 3 if LINES is not read; 4 if the output is not written whole; 7 if LINES is not what `scenarios` prints, or there are more than
-1,000 steps.
+Ends with 0; 3 if LINES is not read; 4 if the output is not written whole; 7 if LINES is not what
+`scenarios` prints, or there are more than 1,000 steps.
 """
 
 from __future__ import annotations
@@ -39,8 +40,14 @@ def run(arguments: argparse.Namespace, desk: Desk) -> int:
     counts = Counter(step_of(it.value, width) for it in lines.values_in(arguments.lines).each)
     first, last = min(counts), max(counts)
     if last - first >= MOST_STEPS:
-        raise Stop(Status.ROW, f"{arguments.lines}: there are more than {MOST_STEPS:,} steps, so take a greater WIDTH")
-    desk.write("value,scenarios\n", *(f"{step * width},{counts[step]}\n" for step in range(first, last + 1)))
+        raise Stop(
+            Status.ROW,
+            f"{arguments.lines}: there are more than {MOST_STEPS:,} steps, so take a greater WIDTH",
+        )
+    desk.write(
+        "value,scenarios\n",
+        *(f"{step * width},{counts[step]}\n" for step in range(first, last + 1)),
+    )
     return Status.DONE
 
 

@@ -1,7 +1,8 @@
 """The language server for editors, on standard input and output.
 
-It shows faults as one types, by the desk's parser, and on save, by the program, with warnings; hovers with the date of a day, the number of
-a node and what `check` says; definition and references of names; the outline; completion by what may stand at a place; formatting.
+It shows faults as one types, by the desk's parser, and on save, by the program, with warnings;
+hovers with the date of a day, the number of a node and what `check` says; definition and references
+of names; the outline; completion by what may stand at a place; formatting.
 """
 
 from __future__ import annotations

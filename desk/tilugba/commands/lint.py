@@ -1,16 +1,18 @@
 """Warns of what is right and probably not meant in a book.
 
-Warnings are lines FILE:LINE:COLUMN: KIND: .., by the book and by the table FIX of fixings, if it is named:
+Warnings are lines FILE:LINE:COLUMN: KIND: .., by the book and by the table FIX of fixings, if it is
+named:
 
-  weekend, holiday  a payment, or an observation of one day, on a Saturday, a Sunday or a day of the file of holidays (a date a line)
+  weekend, holiday  a payment, or an observation of one day, on a weekend or a day of --holidays
   itself            a party that pays itself
   unused            a declared or bound name that nothing uses
   zero, nothing     a contract that is `zero`, or of which `check` says that its total is 0
   bounds            bounds that are a hundred times what the table has
   unread            a label of the table that no contract reads
-  day               a day of the table far outside what contracts read, as a spreadsheet's number of a date is
+  day               a day of the table far from what contracts read, as a serial number of a date is
 
-Ends with 0 if there is no warning, and else with 1. A fault of the book or of the table is told as by `explain`, with its status.
+Ends with 0 if there is no warning, and else with 1. A fault of the book or of the table is told as
+by `explain`, with its status.
 """
 
 from __future__ import annotations
@@ -35,7 +37,11 @@ FINE = (Status.DONE, Status.REFUSED, Status.MISSING)
 def configure(parser: argparse.ArgumentParser) -> None:
     parser.add_argument("book", metavar="BOOK", help="a portfolio")
     parser.add_argument("fix", metavar="FIX", nargs="?", help="a table of fixings")
-    parser.add_argument("--holidays", metavar="FILE", help="dates on which nobody pays, one a line; the rest of a line is left aside")
+    parser.add_argument(
+        "--holidays",
+        metavar="FILE",
+        help="dates on which nobody pays, one a line; the rest of a line is left aside",
+    )
 
 
 def run(arguments: argparse.Namespace, desk: Desk) -> int:
@@ -45,7 +51,9 @@ def run(arguments: argparse.Namespace, desk: Desk) -> int:
     if checked.status not in FINE:
         return tell_fault(desk, ["check", arguments.book], checked, {arguments.book: book_data})
     book = linting.Book(Reading(book_data, PORTFOLIO), holidays)
-    lines = [(it.place, it.told(arguments.book)) for it in linting.warnings_of(book, checked.verdicts())]
+    lines = [
+        (it.place, it.told(arguments.book)) for it in linting.warnings_of(book, checked.verdicts())
+    ]
     below: list[str] = []
     if arguments.fix:
         data = read_file(arguments.fix)
@@ -55,7 +63,9 @@ def run(arguments: argparse.Namespace, desk: Desk) -> int:
             return tell_fault(desk, words, answer, {arguments.book: book_data, arguments.fix: data})
         table = Table(arguments.fix, FIX, arguments.book, data, book.reading.declared)
         if answer.status != Status.REFUSED:
-            lines += [(it.place, it.told(arguments.book)) for it in linting.wide_bounds(book, table)]
+            lines += [
+                (it.place, it.told(arguments.book)) for it in linting.wide_bounds(book, table)
+            ]
             below = [it.told(arguments.fix) for it in linting.table_warnings(book, table)]
     told = [line for _, line in sorted(lines)] + below
     desk.write("".join(f"{line}\n" for line in told))

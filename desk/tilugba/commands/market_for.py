@@ -1,10 +1,12 @@
 """The records of a table that a book can read, so that one table serves many books.
 
-BOOK is a portfolio or a code file. Prints the header of TABLE, and those records whose label BOOK declares as num or flag, in their order
-and byte for byte. Records, fields and quotes are those of docs/FORMATS.md. TABLE may be of any length.
+BOOK is a portfolio or a code file. Prints the header of TABLE, and those records whose label BOOK
+declares as num or flag, in their order and byte for byte. Records, fields and quotes are those of
+docs/FORMATS.md. TABLE may be of any length.
 
-Ends with 0; 3 if a file is not read; 4 if the output is not written whole; 6 if BOOK is neither a portfolio nor a code file; 7 if a
-record of TABLE does not have three fields, or the first one is not the header. Unless the status is 0 or 4, nothing is printed.
+Ends with 0; 3 if a file is not read; 4 if the output is not written whole; 6 if BOOK is neither a
+portfolio nor a code file; 7 if a record of TABLE does not have three fields, or the first one is
+not the header. Unless the status is 0 or 4, nothing is printed.
 """
 
 from __future__ import annotations
@@ -24,7 +26,9 @@ BEGINNINGS = (["portfolio", "1", ";"], ["portfolio", "2", ";"], ["payoff", "1", 
 
 def configure(parser: argparse.ArgumentParser) -> None:
     parser.add_argument("book", metavar="BOOK", type=Path, help="a portfolio or a code file")
-    parser.add_argument("table", metavar="TABLE", type=Path, help="a table of fixings, of this book and of others")
+    parser.add_argument(
+        "table", metavar="TABLE", type=Path, help="a table of fixings, of this book and of others"
+    )
 
 
 def run(arguments: argparse.Namespace, desk: Desk) -> int:
@@ -35,7 +39,9 @@ def run(arguments: argparse.Namespace, desk: Desk) -> int:
 
 
 def labels_of(path: Path) -> set[bytes]:
-    """The labels that a book declares: `num` and `flag` are reserved words, so each has the name of one behind it."""
+    """The labels that a book declares: `num` and `flag` are reserved words, so each has the name of
+    one behind it.
+    """
     found = list(before_contracts(path))
     if found[:3] not in BEGINNINGS:
         raise Stop(Status.TEXT, f"{path} is neither a portfolio nor a code file")

@@ -1,9 +1,11 @@
 """The nodes of a contract, numbered as refusals count them.
 
-FILE is a portfolio or a code file, of which NAME is a contract, or the code. Prints a node a line: its number, the line and the column at
-which it begins, and its first word. With --dot it prints the tree of the nodes as a text for Graphviz instead.
+FILE is a portfolio or a code file, of which NAME is a contract, or the code. Prints a node a line:
+its number, the line and the column at which it begins, and its first word. With --dot it prints the
+tree of the nodes as a text for Graphviz instead.
 
-Ends with 0; 1 if FILE is not read, has no contract or code of that name, or what it has does not parse.
+Ends with 0; 1 if FILE is not read, has no contract or code of that name, or what it has does not
+parse.
 """
 
 from __future__ import annotations
@@ -26,7 +28,9 @@ BETWEEN = {"if": "within", "loop": "upto", "after": "", "let": "", "cut": ""}
 def configure(parser: argparse.ArgumentParser) -> None:
     parser.add_argument("name", metavar="NAME", help="the name of a contract, or of code")
     parser.add_argument("file", metavar="FILE", type=Path, help="a portfolio or a code file")
-    parser.add_argument("--dot", action="store_true", help="print a text for Graphviz: the tree of the nodes")
+    parser.add_argument(
+        "--dot", action="store_true", help="print a text for Graphviz: the tree of the nodes"
+    )
 
 
 def run(arguments: argparse.Namespace, desk: Desk) -> int:
@@ -35,14 +39,29 @@ def run(arguments: argparse.Namespace, desk: Desk) -> int:
     except Stop as stop:
         raise Stop(Status.REFUSED, stop.message) from stop
     number = reading.definition(arguments.name)
-    fault = reading.fault_of(number) if number is not None else reading.fault if reading.is_broken else None
+    fault = (
+        reading.fault_of(number)
+        if number is not None
+        else reading.fault
+        if reading.is_broken
+        else None
+    )
     if fault:
         place = reading.source.place(fault.at)
-        raise Stop(Status.REFUSED, f"{arguments.file}: fault text {fault.kind} line {place.line} column {place.column}")
+        raise Stop(
+            Status.REFUSED,
+            f"{arguments.file}: fault text {fault.kind} line {place.line} column {place.column}",
+        )
     term = reading.read(number).statement.term if number is not None else None
     if number is None or term is None:
         raise Stop(Status.REFUSED, f"there is no contract or code of this name: {arguments.name}")
-    desk.write(*(dot_of(term, arguments.name) if arguments.dot else lines_of(reading, term, reading.segments[number].at)))
+    desk.write(
+        *(
+            dot_of(term, arguments.name)
+            if arguments.dot
+            else lines_of(reading, term, reading.segments[number].at)
+        )
+    )
     return Status.DONE
 
 
@@ -62,10 +81,15 @@ def first_word(text: str, at: int) -> str:
 
 
 def dot_of(term: Term, name: str) -> Iterator[str]:
-    """The tree of a term for Graphviz: contracts and amounts are boxes, expressions ovals, each with its number."""
+    """The tree of a term for Graphviz: contracts and amounts are boxes, expressions ovals, each
+    with its number.
+    """
     numbers = {id(node): number for number, node in enumerate(term.nodes())}
     yield f'digraph "{name}" {{\n'
-    yield '  graph [bgcolor="white", ordering=out, nodesep=0.15, ranksep=0.3]; node [fontname="sans", fontsize=12, height=0.3]; edge [arrowhead=none]\n'
+    yield (
+        '  graph [bgcolor="white", ordering=out, nodesep=0.15, ranksep=0.3]; node '
+        '[fontname="sans", fontsize=12, height=0.3]; edge [arrowhead=none]\n'
+    )
     for node in term.nodes():
         number = numbers[id(node)]
         shape = "oval" if node.sort == EXPRESSION else "box"

@@ -1,11 +1,12 @@
 """A table of scenarios in parts, so that each is a run of `scenarios` for itself.
 
-FOLDER gets at most PARTS tables, `00001.csv` and so on, and is made if it is not there. Scenarios keep their order and are spread evenly:
-each part has the header, those rows of its scenarios that SET has, and each row of `*`. Records keep their order and their bytes. So what
-the program finds wrong with a row of SET it finds in a part, at another number. SET may be of any length.
+FOLDER gets at most PARTS tables, `00001.csv` and so on, and is made if it is not there. Scenarios
+keep their order and are spread evenly: each part has the header, those rows of its scenarios that
+SET has, and each row of `*`. Records keep their order and their bytes. So what the program finds
+wrong with a row of SET it finds in a part, at another number. SET may be of any length.
 
-Ends with 0; 3 if SET is not read; 4 if a part is not written; 7 if SET is no table of scenarios, or has no scenario; 70 if FOLDER has
-tables.
+Ends with 0; 3 if SET is not read; 4 if a part is not written; 7 if SET is no table of scenarios, or
+has no scenario; 70 if FOLDER has tables.
 """
 
 from __future__ import annotations
@@ -25,7 +26,12 @@ MOST_PARTS = 99_999
 
 def configure(parser: argparse.ArgumentParser) -> None:
     parser.add_argument("set", metavar="SET", type=Path, help="a table of scenarios")
-    parser.add_argument("parts", metavar="PARTS", type=count_up_to(MOST_PARTS), help="how many tables there are to be at most")
+    parser.add_argument(
+        "parts",
+        metavar="PARTS",
+        type=count_up_to(MOST_PARTS),
+        help="how many tables there are to be at most",
+    )
     parser.add_argument("folder", metavar="FOLDER", type=Path, help="where the tables go")
 
 

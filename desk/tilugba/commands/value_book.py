@@ -1,12 +1,14 @@
 """What the contracts of a book are worth, and their exact sum.
 
-Each contract is compiled by `payoff` and valued by `value`, to which the options go. The files are read once, so each may be a pipe.
-Prints a line NAME,VALUE for each contract, in the order of the book, and then *,SUM.
+Each contract is compiled by `payoff` and valued by `value`, to which the options go. The files are
+read once, so each may be a pipe. Prints a line NAME,VALUE for each contract, in the order of the
+book, and then *,SUM.
 
-A contract that gets no value has a line `NAME,status N,FAULT` in its place, and there is no sum. If no contract can be named, as for a
-book that does not parse, the fault is all that is printed. Ends with 0 if there is a sum, and otherwise with the greatest status of a
-run, where a signal counts 128 more than its number. A file is not read: 3. The output is not written whole: 4. The program does not
-start, or prints no value: 70.
+A contract that gets no value has a line `NAME,status N,FAULT` in its place, and there is no sum. If
+no contract can be named, as for a book that does not parse, the fault is all that is printed. Ends
+with 0 if there is a sum, and otherwise with the greatest status of a run, where a signal counts 128
+more than its number. A file is not read: 3. The output is not written whole: 4. The program does
+not start, or prints no value: 70.
 """
 
 from __future__ import annotations
@@ -57,7 +59,11 @@ def run(arguments: argparse.Namespace, desk: Desk) -> int:
         # `check` has a verdict on each contract, also on those that it refuses.
         names = [it.name for it in desk.program.run("check", files.book).verdicts()]
     except Stop as stop:
-        desk.write(f"{stop.line}\n" if isinstance(stop, Fault) and stop.line else f"status {stop.status}, {stop.message}\n")
+        desk.write(
+            f"{stop.line}\n"
+            if isinstance(stop, Fault) and stop.line
+            else f"status {stop.status}, {stop.message}\n"
+        )
         return stop.status
     outcomes = outcomes_of(desk.program, files, names, arguments.at, question)
     desk.write(*(f"{name},{it.text}\n" for name, it in zip(names, outcomes)))
@@ -78,10 +84,14 @@ def files_of(arguments: argparse.Namespace) -> Files:
     return Files(*found)
 
 
-def outcomes_of(program: Program, files: Files, names: Sequence[str], day: str, question: Question) -> list[Outcome]:
+def outcomes_of(
+    program: Program, files: Files, names: Sequence[str], day: str, question: Question
+) -> list[Outcome]:
     with ThreadPoolExecutor(len(os.sched_getaffinity(0))) as pool:
         try:
-            return list(pool.map(lambda name: outcome_of(program, files, name, day, question), names))
+            return list(
+                pool.map(lambda name: outcome_of(program, files, name, day, question), names)
+            )
         except BaseException:
             pool.shutdown(cancel_futures=True)
             raise

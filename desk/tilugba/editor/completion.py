@@ -10,7 +10,10 @@ from .protocol import Json
 
 KEYWORD, VARIABLE, OPERATOR = 14, 6, 24
 WORD_BEFORE = re.compile(r"[A-Za-z_][A-Za-z0-9_]*\Z")
-DETAILS = {kind.plural: kind.value for kind in NameSet} | {"numbers": "number", "flags": "flag", "bound names": "bound name"}
+DETAILS = (
+    {kind.plural: kind.value for kind in NameSet}
+    | {"numbers": "number", "flags": "flag", "bound names": "bound name"}
+)
 
 
 def items(document: Document, at: int) -> list[Json]:
@@ -23,7 +26,11 @@ def items(document: Document, at: int) -> list[Json]:
     offers = document.reading.offers_at(at - len(begun[0]) if begun else at)
     found = [{"label": word, "kind": KEYWORD} for word in offers.words]
     for kind, names in offers.names.items():
-        found += [{"label": name, "kind": VARIABLE, "detail": DETAILS.get(kind, kind)} for name in names]
+        found += [
+            {"label": name, "kind": VARIABLE, "detail": DETAILS.get(kind, kind)} for name in names
+        ]
     if not begun:
-        found += [{"label": mark, "kind": OPERATOR} for mark in offers.marks if mark not in ("(", "-")]
+        found += [
+            {"label": mark, "kind": OPERATOR} for mark in offers.marks if mark not in ("(", "-")
+        ]
     return found

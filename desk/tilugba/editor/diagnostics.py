@@ -1,4 +1,6 @@
-"""Faults as the editor shows them: of each statement by the parser, and of the whole text by the program."""
+"""Faults as the editor shows them: of each statement by the parser, and of the whole text by the
+program.
+"""
 
 from __future__ import annotations
 
@@ -19,7 +21,9 @@ MOST = 100
 NOBODY = ("--at", "0", "--from", "nobody", "--to", "nobody", "--asset", "nothing")
 
 
-def diagnostic(document: Document, at: int, end: int, severity: int, kind: str, message: str) -> Json:
+def diagnostic(
+    document: Document, at: int, end: int, severity: int, kind: str, message: str
+) -> Json:
     return {
         "range": document.range(at, max(end, at + 1) if at < len(document.data) else at),
         "severity": severity,
@@ -30,7 +34,9 @@ def diagnostic(document: Document, at: int, end: int, severity: int, kind: str, 
 
 
 def of_the_parser(document: Document) -> list[Json]:
-    """The first fault of each statement. If declarations have some, they alone are told: all else may hang on them."""
+    """The first fault of each statement. If declarations have some, they alone are told: all else
+    may hang on them.
+    """
     reading = document.reading
     header_end = reading.segments[len(reading.header) - 1].end if reading.header else 0
     found: list[Fault] = []
@@ -43,7 +49,9 @@ def of_the_parser(document: Document) -> list[Json]:
 
 def of_a_fault(document: Document, fault: Fault) -> Json:
     message = "\n".join(text_faults.told(document.reading, fault))
-    return diagnostic(document, fault.at, fault.at + len(fault.token.text), ERROR, fault.kind, message)
+    return diagnostic(
+        document, fault.at, fault.at + len(fault.token.text), ERROR, fault.kind, message
+    )
 
 
 def checked(document: Document, program: Program) -> Answer:
@@ -55,7 +63,9 @@ def checked(document: Document, program: Program) -> Answer:
         elif grammar is SCHEDULES:
             document.checked = program.run("expand", document.data)
         else:
-            document.checked = program.run("value", document.data, b"label,day,value\n", b"offset,factor\n0,1\n", *NOBODY)
+            document.checked = program.run(
+                "value", document.data, b"label,day,value\n", b"offset,factor\n0,1\n", *NOBODY
+            )
     return document.checked
 
 
@@ -69,7 +79,10 @@ def of_the_program(document: Document, program: Program) -> list[Json]:
         return of_the_parser(document)
     if document.reading.grammar is SCHEDULES and fault and isinstance(fault.cause, Refusal):
         return [of_a_refusal(document, fault.cause)]
-    if document.reading.grammar is not PORTFOLIO or answer.status not in (Status.DONE, Status.REFUSED):
+    if (
+        document.reading.grammar is not PORTFOLIO
+        or answer.status not in (Status.DONE, Status.REFUSED)
+    ):
         return []
     verdicts = answer.verdicts()
     found = [of_a_refusal(document, it) for it in verdicts if isinstance(it, Refusal)]

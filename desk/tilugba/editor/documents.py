@@ -1,4 +1,6 @@
-"""Open texts and places in them. A place is a byte of the text here, and a line with a count of UTF-16 units in the protocol."""
+"""Open texts and places in them. A place is a byte of the text here, and a line with a count of
+UTF-16 units in the protocol.
+"""
 
 from __future__ import annotations
 
@@ -72,7 +74,12 @@ class Document:
         if line >= len(self.starts):
             return len(self.data)
         start = self.starts[max(line, 0)]
-        return start + bytes_of_units(self.data[start : self.line_end(max(line, 0))], max(position["character"], 0))
+        return (
+            start
+            + bytes_of_units(
+                self.data[start : self.line_end(max(line, 0))], max(position["character"], 0)
+            )
+        )
 
     def position(self, at: int) -> Json:
         """The position of a byte."""

@@ -1,4 +1,6 @@
-"""What is said of a place: the date of a day, the declaration of a name, the number of a node, and what `check` says of the contract."""
+"""What is said of a place: the date of a day, the declaration of a name, the number of a node, and
+what `check` says of the contract.
+"""
 
 from __future__ import annotations
 
@@ -31,7 +33,9 @@ def hover(document: Document, at: int, program: Program) -> Json | None:
     statement = document.reading.read(number).statement
     lines = [*name_lines(document, at), *number_lines(document, base, statement, at)]
     if document.reading.fault_of(number) is None and statement.term is not None:
-        lines += [*node_lines(document, base, statement.term, at), *facts(document, statement, program)]
+        lines += [
+            *node_lines(document, base, statement.term, at), *facts(document, statement, program)
+        ]
     return {"contents": {"kind": "markdown", "value": "\n\n".join(lines)}} if lines else None
 
 
@@ -41,7 +45,10 @@ def name_lines(document: Document, at: int) -> Iterator[str]:
     if name is None or isinstance(name.kind, int):
         return
     for base, statement in document.reading.statements():
-        if any(it.name == name.text for it in statement.declared) and navigation.SETS.get(statement.word) is name.kind:
+        if (
+            any(it.name == name.text for it in statement.declared)
+            and navigation.SETS.get(statement.word) is name.kind
+        ):
             if name.kind is not NameSet.CONTRACT:
                 yield f"`{written(document, base)}`"
             return
@@ -63,7 +70,9 @@ def calendar_of(document: Document) -> Calendar:
 def number_lines(document: Document, base: int, statement: Statement, at: int) -> Iterator[str]:
     """The date of a number of days in a declaration."""
     start = document.reading.declared.start
-    for token in tokens(document.reading.text, base, document.reading.segments[document.reading.segment_at(at)].end):
+    for token in tokens(
+        document.reading.text, base, document.reading.segments[document.reading.segment_at(at)].end
+    ):
         is_here = token.kind == NUMBER and token.at <= at <= token.end and token.text.isdigit()
         days = whole_number(token.text, MOST_DAYS) if is_here else None
         if days is not None and statement.word == "start":
@@ -77,7 +86,10 @@ def node_lines(document: Document, base: int, root: Term, at: int) -> Iterator[s
     found = None
     numbers = {term.at: number for number, term in enumerate(root.nodes())}
     for it in placed(root, document.reading.declared):
-        if base + it.term.at <= at < base + it.term.end and (found is None or it.term.at >= found.term.at):
+        if (
+            base + it.term.at <= at < base + it.term.end
+            and (found is None or it.term.at >= found.term.at)
+        ):
             found = it
     if found is None:
         return
@@ -88,10 +100,16 @@ def node_lines(document: Document, base: int, root: Term, at: int) -> Iterator[s
     yield f"node {numbers[found.term.at]}, {form}: {days_told(document, found.days)}"
     if found.term.form == "obs":
         offset = int(found.term.told("offset")[0])
-        yield f"reads {found.term.told('label')[0]} of {days_told(document, found.days.later(offset))}"
+        yield (
+            f"reads {found.term.told('label')[0]} of "
+            f"{days_told(document, found.days.later(offset))}"
+        )
     if found.term.form == "after":
         shift = sum(int(it) for it in found.term.told("days"))
-        shift += sum(document.reading.declared.names(NameSet.TEMPLATE)[it].days or 0 for it in found.term.told("template"))
+        shift += sum(
+            document.reading.declared.names(NameSet.TEMPLATE)[it].days or 0
+            for it in found.term.told("template")
+        )
         yield f"what is after stands on {days_told(document, found.days.later(shift))}"
 
 
@@ -114,11 +132,19 @@ def facts(document: Document, statement: Statement, program: Program) -> Iterato
         return
     for verdict in answer.verdicts():
         if verdict.name == statement.name:
-            yield accepted(document, verdict) if isinstance(verdict, Acceptance) else f"refused by {verdict.rule} at node {verdict.node}"
+            yield (
+                accepted(document, verdict)
+                if isinstance(verdict, Acceptance)
+                else f"refused by {verdict.rule} at node {verdict.node}"
+            )
 
 
 def accepted(document: Document, verdict: Acceptance) -> str:
     start, calendar = document.reading.declared.start, calendar_of(document)
-    first = "it never pays" if verdict.start == "always" else f"it pays nothing before {calendar.told(start + int(verdict.start))}"
+    first = (
+        "it never pays"
+        if verdict.start == "always"
+        else f"it pays nothing before {calendar.told(start + int(verdict.start))}"
+    )
     last = f"nothing from {calendar.told(start + verdict.horizon)} on"
     return f"{verdict.name} is accepted: {first}, at most {verdict.total}, {last}"

@@ -118,7 +118,10 @@ def outline(document: Document) -> list[Json]:
         for declared in statement.declared:
             at = base + declared.at
             is_alone = len(statement.declared) == 1
-            whole = document.range(at if not is_alone else start_of(document, base), ends[base] if is_alone else at + len(declared.name))
+            whole = document.range(
+                at if not is_alone else start_of(document, base),
+                ends[base] if is_alone else at + len(declared.name),
+            )
             found.append(
                 {
                     "name": declared.name,

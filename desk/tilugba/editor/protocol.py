@@ -53,7 +53,9 @@ class Connection:
         return None
 
     def write(self, message: Json) -> None:
-        data = json.dumps({"jsonrpc": "2.0", **message}, ensure_ascii=False).encode("utf-8", "replace")
+        data = json.dumps({"jsonrpc": "2.0", **message}, ensure_ascii=False).encode(
+            "utf-8", "replace"
+        )
         self.output.write(b"Content-Length: %d\r\n\r\n" % len(data) + data)
         self.output.flush()
 

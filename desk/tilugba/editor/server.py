@@ -28,7 +28,9 @@ CAPABILITIES: Json = {
 
 @dataclass
 class Server:
-    """The open documents of an editor. `find` finds the program, which is asked on save and for hovers."""
+    """The open documents of an editor. `find` finds the program, which is asked on save and for
+    hovers.
+    """
 
     connection: Connection
     find: Callable[[], Program]
@@ -38,7 +40,9 @@ class Server:
     is_shut_down: bool = False
 
     def serve(self) -> int:
-        """Answers messages up to `exit`, and returns the status. Faults are shown when no message waits."""
+        """Answers messages up to `exit`, and returns the status. Faults are shown when no message
+        waits.
+        """
         waiting: queue.Queue[Json | None] = queue.Queue()
         threading.Thread(target=self.receive, args=(waiting,), daemon=True).start()
         message: Json | None = {}
@@ -69,7 +73,9 @@ class Server:
         except Refusal as refusal:
             error = {"code": refusal.code, "message": refusal.message}
         except (KeyError, TypeError, AttributeError, ValueError) as mistake:
-            error = {"code": INVALID_PARAMS, "message": f"{method}: {type(mistake).__name__}: {mistake}"}
+            error = {
+                "code": INVALID_PARAMS, "message": f"{method}: {type(mistake).__name__}: {mistake}"
+            }
         except Stop as stop:
             error = {"code": INTERNAL_ERROR, "message": stop.message}
         except OSError:  # the editor is gone
@@ -137,7 +143,9 @@ class Server:
     # ---- requests
 
     def initialize(self, params: Json) -> Json:
-        return {"capabilities": CAPABILITIES, "serverInfo": {"name": "tilugba-desk language-server"}}
+        return {
+            "capabilities": CAPABILITIES, "serverInfo": {"name": "tilugba-desk language-server"}
+        }
 
     def shutdown(self, params: Json) -> None:
         self.is_shut_down = True
@@ -170,7 +178,11 @@ class Server:
         laid = formatting.formatted(document.reading)
         # Whether the last line is ended is up to the editor.
         laid = laid if document.data.endswith(b"\n") else laid.removesuffix("\n")
-        return [] if laid.encode() == document.data else [{"range": document.range(0, len(document.data)), "newText": laid}]
+        return (
+            []
+            if laid.encode() == document.data
+            else [{"range": document.range(0, len(document.data)), "newText": laid}]
+        )
 
     def nothing(self, params: Json) -> None:
         """A notification that asks for nothing."""

@@ -1,4 +1,6 @@
-"""One line of cure for the slips that people make in texts. Each function knows some slips, and says nothing of others."""
+"""One line of cure for the slips that people make in texts. Each function knows some slips, and
+says nothing of others.
+"""
 
 from __future__ import annotations
 
@@ -14,7 +16,18 @@ from ..texts.offers import article
 from ..texts.tokens import BYTE_ORDER_MARK
 from .scenes import Scene
 
-ORDER = ("portfolio", "amounts", "origin", "start", "party", "asset", "num", "flag", "template", "contract")
+ORDER = (
+    "portfolio",
+    "amounts",
+    "origin",
+    "start",
+    "party",
+    "asset",
+    "num",
+    "flag",
+    "template",
+    "contract",
+)
 OTHER_OPERATORS = {"and": "&", "or": "|", "AND": "&", "OR": "|", "mod": None}
 TABLE_HEADERS = ("label,day,value", "offset,factor", "scenario,label,day,value")
 # What languages of other tools write, by the byte at which no token begins.
@@ -43,7 +56,10 @@ def of_no_text(scene: Scene) -> str | None:
     """A byte order mark, another encoding, or a file of another kind."""
     data, at = scene.reading.source.data, scene.fault.at
     if data.startswith(BYTE_ORDER_MARK) and at == 0:
-        return "three bytes that cannot be seen stand before the text, a byte order mark: save it as UTF-8 without one (tail -c +4 FILE)"
+        return (
+            "three bytes that cannot be seen stand before the text, a byte order mark: save it as "
+            "UTF-8 without one (tail -c +4 FILE)"
+        )
     if data[:2] in (b"\xff\xfe", b"\xfe\xff"):
         return "the file is UTF-16: save it as UTF-8"
     if scene.fault.kind == "utf8":
@@ -56,7 +72,10 @@ def of_no_text(scene: Scene) -> str | None:
     if at == 0 or not scene.before:
         grammar = next((it for it in GRAMMARS if it.word == scene.token.text), None)
         if grammar and grammar is not scene.reading.grammar:
-            return f"this is {article(grammar.name)}, and the command takes {article(scene.reading.grammar.name)}"
+            return (
+                f"this is {article(grammar.name)}, and the command takes "
+                f"{article(scene.reading.grammar.name)}"
+            )
     return None
 
 
@@ -94,7 +113,11 @@ def of_a_number(scene: Scene) -> str | None:
     if scene.last().kind == tokens.NUMBER and scene.last().end == at:
         if re.compile("[eE][0-9]*").fullmatch(scene.token.text):
             return "a number has no exponent: write all its digits"
-        if scene.token.kind == tokens.MARK and scene.next().kind == tokens.NUMBER and scene.token.text == "-":
+        if (
+            scene.token.kind == tokens.MARK
+            and scene.next().kind == tokens.NUMBER
+            and scene.token.text == "-"
+        ):
             return None
     if text[at : at + 1] == "%" and scene.last().kind == tokens.NUMBER:
         return STRAYS["%"]
@@ -106,20 +129,38 @@ def of_a_date(scene: Scene) -> str | None:
     ordinal = ordinal_of(scene.token.text) if scene.token.kind == tokens.DATE else None
     if ordinal is None or scene.fault.offers.date:
         return None
-    if scene.reading.grammar is SCHEDULES and not any(it.has("1") for it in scene.fault.offers.numbers):
+    if (
+        scene.reading.grammar is SCHEDULES
+        and not any(it.has("1") for it in scene.fault.offers.numbers)
+    ):
         return None
     if scene.declared.origin is None:
-        return "days are numbers from the day on which the contracts begin; without an `origin` line no date has a number"
+        return (
+            "days are numbers from the day on which the contracts begin; without an `origin` line "
+            "no date has a number"
+        )
     first = scene.declared.origin + scene.declared.start
-    nested = " (less the days of each `after` and `within` round it)" if "after" in [it.form for it in scene.open[:-1]] else ""
+    nested = (
+        " (less the days of each `after` and `within` round it)"
+        if "after" in [it.form for it in scene.open[:-1]]
+        else ""
+    )
     days = ordinal - first
     if days < 0:
-        return f"days are numbers, from {date_text(first)} on, on which the contracts begin; {scene.token.text} is before that"
-    return f"days are numbers, from the first day on, {date_text(first)}: {scene.token.text} is {days} days later{nested}"
+        return (
+            f"days are numbers, from {date_text(first)} on, on which the contracts begin; "
+            f"{scene.token.text} is before that"
+        )
+    return (
+        f"days are numbers, from the first day on, {date_text(first)}: {scene.token.text} is "
+        f"{days} days later{nested}"
+    )
 
 
 def of_an_operation(scene: Scene) -> str | None:
-    """An operation without its parentheses, with three operands, or with an operator that the language does not have."""
+    """An operation without its parentheses, with three operands, or with an operator that the
+    language does not have.
+    """
     written = scene.token.text
     if scene.operand is None or scene.fault.kind != "syntax":
         return None
@@ -128,7 +169,11 @@ def of_an_operation(scene: Scene) -> str | None:
     if written == "=" and scene.last().text == "=":
         return "one `=` compares"
     left = scene.written(scene.base + scene.operand.at, scene.base + scene.operand.end)
-    if written in OTHER_OPERATORS and OTHER_OPERATORS[written] and scene.innermost == trees.OPERATION:
+    if (
+        written in OTHER_OPERATORS
+        and OTHER_OPERATORS[written]
+        and scene.innermost == trees.OPERATION
+    ):
         return f"`{written}` is written {OTHER_OPERATORS[written]}"
     if written not in tokens.MARKS or written in (";", ",", ":", "(", ")", "..") or len(left) > 60:
         return None
@@ -143,7 +188,10 @@ def of_doubled_marks(scene: Scene) -> str | None:
     """`==`, `&&` and `||`, and comparisons of other languages."""
     pair = scene.last().text + scene.token.text
     if scene.last().end == scene.fault.at and pair in ("==", "&&", "||", "<>", "=<", "=>", "><"):
-        return f"`{pair}` is written " + {"==": "=", "&&": "&", "||": "|", "<>": "!=", "=<": "<=", "=>": ">="}.get(pair, "!=")
+        return (
+            f"`{pair}` is written "
+            + {"==": "=", "&&": "&", "||": "|", "<>": "!=", "=<": "<=", "=>": ">="}.get(pair, "!=")
+        )
     return None
 
 
@@ -151,7 +199,10 @@ def of_a_choice(scene: Scene) -> str | None:
     """An `if` of contracts without `within`, or of expressions in the way of contracts."""
     words = scene.fault.offers.words
     if scene.token.text in ("then", ",") and "within" in words:
-        return "contracts say how long they look: if E within 0 then .. else .. looks today alone; numbers have if(E, a, b)"
+        return (
+            "contracts say how long they look: if E within 0 then .. else .. looks today alone; "
+            "numbers have if(E, a, b)"
+        )
     if scene.token.text in (";", ")", ",", "") and words == ["else"] and scene.innermost == "if":
         return "an `if` of contracts has an `else`: perhaps else zero"
     return None
@@ -161,32 +212,77 @@ def of_too_many(scene: Scene) -> str | None:
     """A form with more in its parentheses than it takes, or an amount in `pay`."""
     form = scene.innermost
     if form == "pay" and scene.token.kind == tokens.NUMBER:
-        return f"`pay` is one unit, and the amount stands in `scale`: scale({scene.token.text}, pay(ASSET, PAYER, RECEIVER))"
+        return (
+            f"`pay` is one unit, and the amount stands in `scale`: scale({scene.token.text}, "
+            "pay(ASSET, PAYER, RECEIVER))"
+        )
     if scene.token.text != ",":
         return None
     if form in ("both", "add", "min", "max"):
         return f"`{form}` takes two: {form}(a, {form}(b, c))"
-    if form in ("scale", "after", "cut", "round", "div", "widen", "obs", "model", "neg", "not", "if", "acc"):
-        return f"`{form}` has all that it takes: a `)` is missing before this comma, or there is a comma too many in it"
+    if (
+        form
+        in (
+            "scale",
+            "after",
+            "cut",
+            "round",
+            "div",
+            "widen",
+            "obs",
+            "model",
+            "neg",
+            "not",
+            "if",
+            "acc",
+        )
+    ):
+        return (
+            f"`{form}` has all that it takes: a `)` is missing before this comma, or there is a "
+            "comma too many in it"
+        )
     return None
 
 
 def of_a_name(scene: Scene) -> str | None:
-    """A name with a blank or another character in it, one that begins with a digit, or one of the language's words."""
+    """A name with a blank or another character in it, one that begins with a digit, or one of the
+    language's words.
+    """
     offers, last, text, at = scene.fault.offers, scene.last(), scene.reading.text, scene.fault.at
     if scene.fault.kind != "syntax":
         return None
-    if last.kind == tokens.NAME and scene.token.kind in (tokens.NAME, tokens.NUMBER) and is_between_names(scene):
+    if (
+        last.kind == tokens.NAME
+        and scene.token.kind in (tokens.NAME, tokens.NUMBER)
+        and is_between_names(scene)
+    ):
         return f"a name has no blank: {last.text}_{scene.token.text}"
     adjacent = last.kind == tokens.NAME and last.end == at
-    if adjacent and scene.token.text == "-" and scene.next().kind in (tokens.NAME, tokens.NUMBER) and is_between_names(scene):
+    if (
+        adjacent
+        and scene.token.text == "-"
+        and scene.next().kind in (tokens.NAME, tokens.NUMBER)
+        and is_between_names(scene)
+    ):
         return f"a name has letters, digits and `_`: {last.text}_{scene.next().text}"
-    if scene.token.kind == tokens.STRAY and at < len(text) and (adjacent or text[at] > "\x7f" or text[at] in ".&'" or text[at].isalpha()):
+    if (
+        scene.token.kind == tokens.STRAY
+        and at < len(text)
+        and (adjacent or text[at] > "\x7f" or text[at] in ".&'" or text[at].isalpha())
+    ):
         return of_a_stray_in_a_name(scene)
     if offers.new is not None and scene.token.kind == tokens.NUMBER:
-        return "a name does not begin with a digit: _" + re.compile("[0-9A-Za-z_]*").match(text, at)[0]
-    if scene.token.kind == tokens.WORD and (offers.new is not None or (offers.names and not offers.words)):
-        return f"`{scene.token.text}` is a word of the language, and no name: perhaps {scene.token.text}_ or {scene.token.text.title()}"
+        return (
+            "a name does not begin with a digit: _" + re.compile("[0-9A-Za-z_]*").match(text, at)[0]
+        )
+    if (
+        scene.token.kind == tokens.WORD
+        and (offers.new is not None or (offers.names and not offers.words))
+    ):
+        return (
+            f"`{scene.token.text}` is a word of the language, and no name: perhaps "
+            f"{scene.token.text}_ or {scene.token.text.title()}"
+        )
     return None
 
 
@@ -200,7 +296,11 @@ def of_a_stray_in_a_name(scene: Scene) -> str | None:
     character = data[at : at + 4].decode("utf-8", "ignore")[:1]
     if len(re.compile("[A-Za-z0-9_]*").match(scene.reading.text, at)[0]) > 64:
         return "a name has at most 64 characters"
-    return f"a name has letters from A to Z and a to z, digits and `_`, and `{character}` is none" if character.strip() else None
+    return (
+        f"a name has letters from A to Z and a to z, digits and `_`, and `{character}` is none"
+        if character.strip()
+        else None
+    )
 
 
 def of_a_word(scene: Scene) -> str | None:
@@ -209,7 +309,10 @@ def of_a_word(scene: Scene) -> str | None:
     if scene.fault.kind != "syntax" or not written.isidentifier():
         return None
     if written in ORDER[1:] and scene.is_first and written not in words:
-        return f"`{written}` stands too late, or once too often: the order is {' '.join(ORDER[1:])}; num and flag may be mixed"
+        return (
+            f"`{written}` stands too late, or once too often: the order is {' '.join(ORDER[1:])}; "
+            "num and flag may be mixed"
+        )
     found = nearest(written, words)
     return f"is `{found}` meant?" if found and found != written else None
 
@@ -217,10 +320,17 @@ def of_a_word(scene: Scene) -> str | None:
 def of_a_missing_mark(scene: Scene) -> str | None:
     """A semicolon or a parenthesis that is missing before the next statement or word."""
     marks, written = scene.fault.offers.marks, scene.token.text
-    begins = written in ORDER or (scene.reading.grammar is SCHEDULES and written in SCHEDULES.definitions) or written in ("code", "")
+    begins = (
+        written in ORDER
+        or (scene.reading.grammar is SCHEDULES and written in SCHEDULES.definitions)
+        or written in ("code", "")
+    )
     if begins and ";" in marks:
         return f"a `;` is missing behind `{scene.last().text}`"
-    if ")" in marks and (begins or written in (";", "then", "else", "within", "upto", "in", "against", "until")):
+    if (
+        ")" in marks
+        and (begins or written in (";", "then", "else", "within", "upto", "in", "against", "until"))
+    ):
         return f"a `)` is missing: {opened(scene)}"
     if written == ")" and not scene.open:
         return "there is a `)` too many"
@@ -242,12 +352,20 @@ def opened(scene: Scene) -> str:
 def of_a_version(scene: Scene) -> str | None:
     """What only version 2 has, or a version that there is not."""
     if scene.reading.grammar is not PORTFOLIO:
-        return "code files and schedule files have version 1 alone" if scene.last().text in ("payoff", "schedules") else None
+        return (
+            "code files and schedule files have version 1 alone"
+            if scene.last().text in ("payoff", "schedules")
+            else None
+        )
     if scene.last().text == "portfolio" and scene.last(2).kind == tokens.END:
         return "the versions are 1 and 2"
     if scene.declared.version == 1 and scene.token.text == ":" and scene.statement.word == "asset":
         return "decimals of an asset are of version 2: begin the text with portfolio 2;"
-    if scene.declared.version == 1 and scene.token.text == "+" and scene.innermost in ("after", "if"):
+    if (
+        scene.declared.version == 1
+        and scene.token.text == "+"
+        and scene.innermost in ("after", "if")
+    ):
         return "sums of days are of version 2: begin the text with portfolio 2;"
     return None
 
@@ -256,8 +374,15 @@ def of_a_range(scene: Scene) -> str | None:
     """The bounds of a label with something else between them."""
     if scene.statement.word == "num" and ".." in scene.fault.offers.marks:
         return "two points stand between the bounds, as in 0.5000 .. 2.0000"
-    if scene.statement.word == "num" and scene.last().kind == tokens.NAME and scene.fault.offers.marks == [":"]:
-        return f"a number that is observed has its decimals and its bounds: num {scene.last().text} : 4 in 0.5000 .. 2.0000;"
+    if (
+        scene.statement.word == "num"
+        and scene.last().kind == tokens.NAME
+        and scene.fault.offers.marks == [":"]
+    ):
+        return (
+            f"a number that is observed has its decimals and its bounds: num {scene.last().text} : "
+            "4 in 0.5000 .. 2.0000;"
+        )
     return None
 
 
@@ -267,7 +392,10 @@ def of_unknown(scene: Scene) -> str | None:
         return None
     name, kind = scene.token.text, scene.set_of(scene.token.text)
     known = [it for names in scene.fault.offers.names.values() for it in names]
-    if kind is NameSet.LABEL and not scene.fault.offers.names.keys() & {"labels", "numbers", "flags"}:
+    if (
+        kind is NameSet.LABEL
+        and not scene.fault.offers.names.keys() & {"labels", "numbers", "flags"}
+    ):
         read = "model" if scene.reading.grammar is CODE else "obs"
         return f"a rate is observed on a day: {read}({name}, 0)"
     if found := nearest(name, known):
@@ -283,8 +411,15 @@ def of_twice(scene: Scene) -> str | None:
         return None
     for at, statement in scene.reading.statements():
         for declared in statement.declared:
-            if declared.name == scene.token.text and at + declared.at < scene.fault.at and statement.word == scene.statement.word:
-                return f"{declared.name} is declared in line {scene.reading.source.place(at + declared.at).line} already"
+            if (
+                declared.name == scene.token.text
+                and at + declared.at < scene.fault.at
+                and statement.word == scene.statement.word
+            ):
+                return (
+                    f"{declared.name} is declared in line "
+                    f"{scene.reading.source.place(at + declared.at).line} already"
+                )
     return None
 
 
@@ -293,7 +428,10 @@ def of_depth(scene: Scene) -> str | None:
     if scene.fault.kind != "deep":
         return None
     most = 400 if scene.reading.grammar is CODE else 200
-    return f"{most} terms are open here, the most that a text may have: write a long `both` or sum as a balanced tree, half and half"
+    return (
+        f"{most} terms are open here, the most that a text may have: write a long `both` or sum as "
+        "a balanced tree, half and half"
+    )
 
 
 CURES: tuple[Cure, ...] = (

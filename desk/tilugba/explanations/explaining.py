@@ -1,4 +1,6 @@
-"""Explains a run that did not end with 0: by its cause, to the module that knows it, which is loaded then."""
+"""Explains a run that did not end with 0: by its cause, to the module that knows it, which is
+loaded then.
+"""
 
 from __future__ import annotations
 
@@ -68,7 +70,9 @@ class Run:
 
     @property
     def text_role(self) -> str:
-        return next((role for role in (BOOK, CODE_FILE, PLANS) if role in self.asked.form.files), BOOK)
+        return next(
+            (role for role in (BOOK, CODE_FILE, PLANS) if role in self.asked.form.files), BOOK
+        )
 
     @property
     def text_file(self) -> str:
@@ -125,8 +129,8 @@ def lines_of(
 
 
 def tell_fault(desk: Desk, words: Sequence[str], answer: Answer, kept: dict[str, bytes]) -> int:
-    """Tells the fault of a run of a subcommand on standard error, as `explain` does, and returns its
-    status.
+    """Tells the fault of a run of a subcommand on standard error, as `explain` does, and returns
+    its status.
     """
     desk.tell(lines_of(words, desk.program, answer, kept))
     return answer.status
@@ -173,8 +177,14 @@ def missing_note(run: Run, cause: MissingFixing) -> Note:
     options = ["--until", until] if until else []
     if run.asked.command in ("advance", "novate"):
         options = until_before(run)
-    asked = missing.Asked(run.text_file, run.reading, (*behind, *options), are_contracts=run.text_role == BOOK)
-    tables = [place for place, role in enumerate(run.asked.form.files[: len(run.asked.files)], 1) if role in (FIX, SCEN)]
+    asked = missing.Asked(
+        run.text_file, run.reading, (*behind, *options), are_contracts=run.text_role == BOOK
+    )
+    tables = [
+        place
+        for place, role in enumerate(run.asked.form.files[: len(run.asked.files)], 1)
+        if role in (FIX, SCEN)
+    ]
     calendar = Calendar(run.reading.declared.origin)
     cures = [rows.serial_date(table_of(run, place), cause.label, calendar) for place in tables]
     return missing.note_of(asked, cause, run.program, cures)
@@ -184,7 +194,11 @@ def until_before(run: Run) -> list[str]:
     """The last day that an advance asks for, which is that before the new one."""
     day = day_of(run.asked.options["--to"])
     number = Calendar(run.reading.declared.origin).number(day) if day else None
-    return ["--until", str(number - 1)] if number is not None and number > run.reading.declared.start else []
+    return (
+        ["--until", str(number - 1)]
+        if number is not None and number > run.reading.declared.start
+        else []
+    )
 
 
 def file_note(name: str, status: int) -> Note:
@@ -208,13 +222,25 @@ def siblings(path: Path) -> list[str]:
 
 def unknown_note(run: Run, name: str) -> Note:
     """A name of the command line: what it would have to be, and which there are."""
-    kinds = {"--contract": NameSet.CONTRACT, "--from": NameSet.PARTY, "--to": NameSet.PARTY, "--asset": NameSet.ASSET}
+    kinds = {
+        "--contract": NameSet.CONTRACT,
+        "--from": NameSet.PARTY,
+        "--to": NameSet.PARTY,
+        "--asset": NameSet.ASSET,
+    }
     kinds |= {"--old": NameSet.PARTY, "--new": NameSet.PARTY}
-    option = next((it for it, value in run.asked.options.items() if value == name and it in kinds), None)
+    option = next(
+        (it for it, value in run.asked.options.items() if value == name and it in kinds), None
+    )
     kind = kinds[option] if option else NameSet.TEMPLATE
-    known = list(run.reading.defined if kind is NameSet.CONTRACT else run.reading.declared.names(kind))
+    known = list(
+        run.reading.defined if kind is NameSet.CONTRACT else run.reading.declared.names(kind)
+    )
     near = command_line.nearest(name, known)
-    said = f"there is no {kind.value} {name}; {kind.plural}: {', '.join(known[:12])}{' and others' if len(known) > 12 else ''}"
+    said = (
+        f"there is no {kind.value} {name}; {kind.plural}: "
+        f"{', '.join(known[:12])}{' and others' if len(known) > 12 else ''}"
+    )
     said = said if known else f"there is no {kind.value}"
     return Note(run.text_file, said, lines=(f"is {near} meant?",) if near else ())
 
@@ -227,14 +253,23 @@ def day_note(run: Run, word: str) -> Note:
     number = calendar.number(day) if day else None
     last = LAST_NEW_DAY if run.asked.command in ("advance", "novate") else LAST_DAY
     if number is None:
-        return Note(run.text_file, f"{word} is a date, and the text has no origin: give it an `origin` line, or the day as a number")
+        return Note(
+            run.text_file,
+            f"{word} is a date, and the text has no origin: give it an `origin` line, or the day "
+            "as a number",
+        )
     first = calendar.told(declared.start)
-    return Note(run.text_file, f"{word} is out of range: days go from the start, {first}, to day {last:,}")
+    return Note(
+        run.text_file, f"{word} is out of range: days go from the start, {first}, to day {last:,}"
+    )
 
 
 def scenarios_note(run: Run, count: int) -> Note:
     return Note(
         run.text_file,
         f"there are {count:,} scenarios, too many for code that may be worth so much",
-        lines=("split the set with tilugba-desk split-set, and join what is printed with tilugba-desk join-sets",),
+        lines=(
+            "split the set with tilugba-desk split-set, and join what is printed with tilugba-desk "
+            "join-sets",
+        ),
     )

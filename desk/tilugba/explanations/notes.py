@@ -1,4 +1,6 @@
-"""How an explanation is told: a line in the form of compilers, the line of the text with a caret, and further lines below it."""
+"""How an explanation is told: a line in the form of compilers, the line of the text with a caret,
+and further lines below it.
+"""
 
 from __future__ import annotations
 
@@ -21,7 +23,9 @@ class Note(NamedTuple):
     lines: tuple[str, ...] = ()
 
     def told(self) -> Iterator[str]:
-        """The lines of the explanation. The first has the form `FILE:LINE:COLUMN: TITLE`, by which editors jump."""
+        """The lines of the explanation. The first has the form `FILE:LINE:COLUMN: TITLE`, by which
+        editors jump.
+        """
         place = f":{self.place.line}:{self.place.column}" if self.place else ""
         yield f"{self.where}{place}: {self.title}"
         if self.source and self.place:
@@ -34,8 +38,11 @@ def shown(source: Source, place: Place) -> Iterator[str]:
     """The line of a place, and a caret below the place."""
     line = source.line(place.line) if place.line <= len(source.starts) else b""
     at = min(place.column - 1, len(line))
-    # A character has at most four bytes, and one of which a part is cut off is not shown in any case.
-    before, behind = displayed(line[max(at - 4 * WIDEST, 0) : at]), displayed(line[at : at + 4 * WIDEST])
+    # A character has at most four bytes, and one of which a part is cut off is not shown in any
+    # case.
+    before, behind = displayed(line[max(at - 4 * WIDEST, 0) : at]), displayed(
+        line[at : at + 4 * WIDEST]
+    )
     if len(before) > BEFORE and len(before) + len(behind) > WIDEST:
         before = "..." + before[len(before) - BEFORE :]
     if len(before) + len(behind) > WIDEST:

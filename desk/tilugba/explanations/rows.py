@@ -1,4 +1,6 @@
-"""A record of a table that is refused: the record, what is wrong with it, and a cure, also for what spreadsheets write."""
+"""A record of a table that is refused: the record, what is wrong with it, and a cure, also for what
+spreadsheets write.
+"""
 
 from __future__ import annotations
 
@@ -20,7 +22,8 @@ HEADERS = {FIX: tables.FIXINGS, CURVE: tables.CURVE, SCEN: tables.SCENARIOS}
 # The field at which each kind of fault is, counted from the end of a record of fixings.
 FIELDS = {"label": -3, "day": -2, "value": -1, "bounds": -1, "conflict": -1}
 CURVE_FIELDS = {"day": 0, "factor": 1, "zero": 0, "rising": 0}
-# A number of five digits is taken for a date of a spreadsheet if that is no farther from day 0 than this.
+# A number of five digits is taken for a date of a spreadsheet if that is no farther from day 0 than
+# this.
 NEAR = 20_000
 SERIAL = re.compile(rb',"?[0-9]{5}"?,')
 SLASHED = re.compile(r"([0-9]{1,2})[/.]([0-9]{1,2})[/.]([0-9]{4})")
@@ -58,7 +61,9 @@ def lines_of_nothing(table: Table) -> list[str]:
     if not table.data.strip():
         return [f"the table is empty; its first record is {','.join(table.header)}"]
     if table.role == SCEN:
-        return ["there is no scenario: the first field of a record is its name, or * for all scenarios"]
+        return [
+            "there is no scenario: the first field of a record is its name, or * for all scenarios"
+        ]
     return [f"there is no record below {','.join(table.header)}"]
 
 
@@ -72,7 +77,9 @@ def column_of(table: Table, record: Record, kind: str) -> int:
     return start + sum(len(it) + 1 for it in record.fields[:position])
 
 
-def lines_of(table: Table, record: Record, cause: BadRow, found: dict[int, Record]) -> list[str | None]:
+def lines_of(table: Table, record: Record, cause: BadRow, found: dict[int, Record]) -> list[
+    str | None
+]:
     if cause.kind == "shape":
         return shape_lines(table, record)
     if table.role == CURVE:
@@ -98,7 +105,10 @@ def shape_lines(table: Table, record: Record) -> list[str | None]:
     if record.number == 1:
         return [f"the first record has to be {wanted}", header_cure(table, record)]
     if record.fields and table.role == SCEN and len(record.fields) == len(table.header):
-        return [f"'{shortened(record.texts[0])}' is no name of a scenario, and no *", "a name has letters, digits and `_`, as in fx_up_1"]
+        return [
+            f"'{shortened(record.texts[0])}' is no name of a scenario, and no *",
+            "a name has letters, digits and `_`, as in fx_up_1",
+        ]
     said = f"there are {len(record.fields)} fields; a record of {wanted} has {len(table.header)}"
     return [said, separator_cure(record) or quote_cure(record)]
 
@@ -135,7 +145,11 @@ def quote_cure(record: Record) -> str | None:
         return "a quote is not closed"
     if record.texts[0].lstrip().startswith("#"):
         return "a table has no comments"
-    return "a number has a comma in it, or there is a comma too many" if len(record.fields) > 2 else None
+    return (
+        "a number has a comma in it, or there is a comma too many"
+        if len(record.fields) > 2
+        else None
+    )
 
 
 # ---- fields of fixings
@@ -143,22 +157,37 @@ def quote_cure(record: Record) -> str | None:
 
 def label_lines(table: Table, label: str) -> list[str | None]:
     names = list(table.declared.names(NameSet.LABEL))
-    known = f"declared are {listed(names[:12])}{' and others' if len(names) > 12 else ''}" if names else "none is declared"
+    known = (
+        f"declared are {listed(names[:12])}{' and others' if len(names) > 12 else ''}"
+        if names
+        else "none is declared"
+    )
     near = nearest(label.strip(), names)
-    return [f"label {shortened(label)} is not declared in {table.book}; {known}", f"is {near} meant?" if near else blank_cure(label)]
+    return [
+        f"label {shortened(label)} is not declared in {table.book}; {known}",
+        f"is {near} meant?" if near else blank_cure(label),
+    ]
 
 
 def blank_cure(field: str) -> str | None:
-    return "blanks count: there is none before or behind a comma" if field != field.strip() else None
+    return (
+        "blanks count: there is none before or behind a comma" if field != field.strip() else None
+    )
 
 
 def day_lines(table: Table, day: str) -> list[str | None]:
     found = day_of(day)
     if found and found.is_date and table.declared.origin is None:
-        return [f"{day} is a date, and {table.book} has no origin", "give the text an `origin` line, or write days as numbers"]
+        return [
+            f"{day} is a date, and {table.book} has no origin",
+            "give the text an `origin` line, or write days as numbers",
+        ]
     if found:
         return [f"{day} is out of range: days go from -3,000,000 to 3,000,000"]
-    return [f"'{shortened(day)}' is no day: a number of up to nine digits, or a date as 2026-01-05", day_cure(day)]
+    return [
+        f"'{shortened(day)}' is no day: a number of up to nine digits, or a date as 2026-01-05",
+        day_cure(day),
+    ]
 
 
 def day_cure(day: str) -> str | None:
@@ -166,7 +195,9 @@ def day_cure(day: str) -> str | None:
         return blank_cure(day)
     if slashed := SLASHED.fullmatch(day):
         first, second, year = slashed.groups()
-        readings = {f"{year}-{month:0>2}-{it:0>2}" for month, it in ((first, second), (second, first))}
+        readings = {
+            f"{year}-{month:0>2}-{it:0>2}" for month, it in ((first, second), (second, first))
+        }
         known = sorted(it for it in readings if days.ordinal_of(it) is not None)
         return f"write the date as {' or '.join(known)}" if known else None
     if days.DATE.match(day[:10]) and len(day) > 10:
@@ -174,24 +205,47 @@ def day_cure(day: str) -> str | None:
     if days.DATE.fullmatch(day):
         return "there is no such date"
     parts = [it for it in day.split("-") if it.isdigit()]
-    return "a date has four digits, two and two, as 2026-01-05" if len(parts) == 3 or len(day) == 8 else None
+    return (
+        "a date has four digits, two and two, as 2026-01-05"
+        if len(parts) == 3 or len(day) == 8
+        else None
+    )
 
 
 def value_lines(label: str, declared: Declared, value: str) -> list[str | None]:
     if declared.decimals is None:
         cure = f"write {value.lower()}" if value.lower() in ("true", "false") else None
-        return [f"'{shortened(value)}' is neither true nor false, and {label} is a flag", cure or flag_cure(value) or blank_cure(value)]
+        return [
+            f"'{shortened(value)}' is neither true nor false, and {label} is a flag",
+            cure or flag_cure(value) or blank_cure(value),
+        ]
     decimals = value.partition(".")[2]
     if tables.VALUE.fullmatch(value) and value not in ("true", "false"):
         if len(decimals) > declared.decimals:
             cure = f"round it at its source to {declared.decimals}"
-            return [f"{value} has {len(decimals)} decimals, and {label} has at most {declared.decimals}", cure]
+            return [
+                f"{value} has {len(decimals)} decimals, and {label} has at most "
+                f"{declared.decimals}",
+                cure,
+            ]
         return [f"{shortened(value)} is too great"]
-    return [f"'{shortened(value)}' is no number: digits, and perhaps a point with digits behind it", value_cure(value)]
+    return [
+        f"'{shortened(value)}' is no number: digits, and perhaps a point with digits behind it",
+        value_cure(value),
+    ]
 
 
 def flag_cure(value: str) -> str | None:
-    told = {"1": "true", "yes": "true", "y": "true", "t": "true", "0": "false", "no": "false", "n": "false", "f": "false"}
+    told = {
+        "1": "true",
+        "yes": "true",
+        "y": "true",
+        "t": "true",
+        "0": "false",
+        "no": "false",
+        "n": "false",
+        "f": "false",
+    }
     return f"write {told[value.lower()]}" if value.lower() in told else None
 
 
@@ -215,14 +269,21 @@ def value_cure(value: str) -> str | None:
         return "there is no %: 5 % is 0.05"
     if plain.lower() in ("", "nan", "na", "n/a", "null", "none", "#n/a", "-"):
         return "what was not observed has no record: leave it out"
-    return "a flag has true and false, and this label is a number" if plain in ("true", "false") else None
+    return (
+        "a flag has true and false, and this label is a number"
+        if plain in ("true", "false")
+        else None
+    )
 
 
 def bounds_lines(table: Table, label: str, declared: Declared) -> list[str | None]:
-    low, high = (number_told(it or 0, declared.decimals or 0) for it in (declared.low, declared.high))
+    low, high = (
+        number_told(it or 0, declared.decimals or 0) for it in (declared.low, declared.high)
+    )
     return [
         f"{label} is declared in {table.book} from {low} to {high}",
-        "contracts were accepted on the promise of these bounds: correct the value, or widen the bounds and check again",
+        "contracts were accepted on the promise of these bounds: correct the value, or widen the "
+        "bounds and check again",
     ]
 
 
@@ -240,14 +301,23 @@ def conflict_lines(table: Table, cause: BadRow, found: dict[int, Record]) -> lis
 def curve_lines(record: Record, cause: BadRow, before: Record | None) -> list[str | None]:
     offset, factor = record.texts[0], record.texts[-1]
     if cause.kind == "day":
-        return [f"'{shortened(offset)}' is no number of days from 0 to 2,000,000", "offsets count days from the day of the value"]
+        return [
+            f"'{shortened(offset)}' is no number of days from 0 to 2,000,000",
+            "offsets count days from the day of the value",
+        ]
     if cause.kind == "factor":
         said = f"'{shortened(factor)}' is no factor: a number from 0 to 10 with at most 9 decimals"
         return [said, None if tables.VALUE.fullmatch(factor) else value_cure(factor)]
     if cause.kind == "zero":
-        return ["the first offset has to be 0, for what is paid on the day itself", "mostly that is the record 0,1"]
+        return [
+            "the first offset has to be 0, for what is paid on the day itself",
+            "mostly that is the record 0,1",
+        ]
     earlier = before.texts[0] if before else ""
-    return [f"offset {offset} is not above {earlier}, that of the record before it", "sort the table, and take out what is there twice"]
+    return [
+        f"offset {offset} is not above {earlier}, that of the record before it",
+        "sort the table, and take out what is there twice",
+    ]
 
 
 # ---- days of spreadsheets
@@ -258,14 +328,22 @@ def serial_date(table: Table, label: str, calendar: Calendar) -> str | None:
     first = calendar.ordinal(0)
     if first is None or not SERIAL.search(table.data):
         return None
-    found = [it for it in tables.records(table.data) if len(it.fields) == len(table.header) and is_serial(it.texts[-2], first)]
+    found = [
+        it
+        for it in tables.records(table.data)
+        if len(it.fields) == len(table.header) and is_serial(it.texts[-2], first)
+    ]
     if not found:
         return None
     record = next((it for it in found if it.texts[-3] == label), found[0])
     date = days.date_text(days.SERIAL_ZERO + int(record.texts[-2]))
-    return f"record {record.number} has day {record.texts[-2]}, which is {date} as spreadsheets number days: write the date"
+    return (
+        f"record {record.number} has day {record.texts[-2]}, which is {date} as spreadsheets "
+        "number days: write the date"
+    )
 
 
 def is_serial(day: str, first: int) -> bool:
-    """Whether a day may be the number by which a spreadsheet has a date not far from the first day."""
+    """Whether a day may be the number by which a spreadsheet has a date not far from the first day.
+    """
     return len(day) == 5 and day.isdigit() and abs(days.SERIAL_ZERO + int(day) - first) < NEAR

@@ -1,4 +1,6 @@
-"""What is round a fault of a text: the tokens before and behind it, and the terms that are open there."""
+"""What is round a fault of a text: the tokens before and behind it, and the terms that are open
+there.
+"""
 
 from __future__ import annotations
 
@@ -24,7 +26,9 @@ class Scene:
 
     @cached_property
     def number(self) -> int:
-        """The segment of the fault; that of a token behind a statement that lacks its end is the statement's."""
+        """The segment of the fault; that of a token behind a statement that lacks its end is the
+        statement's.
+        """
         found = self.reading.segment_at(self.fault.at)
         behind = found > 0 and self.reading.read(found - 1).missing and self.is_first_of(found)
         return found - 1 if behind else found
@@ -72,7 +76,11 @@ class Scene:
 
     def next(self, forth: int = 1) -> Token:
         """A token behind the one at fault."""
-        return self.behind[forth] if len(self.behind) > forth else Token(tokens.END, "", len(self.reading.text))
+        return (
+            self.behind[forth]
+            if len(self.behind) > forth
+            else Token(tokens.END, "", len(self.reading.text))
+        )
 
     def written(self, at: int, end: int) -> str:
         """What is written between two places, without line ends."""
@@ -95,7 +103,9 @@ class Scene:
 
     @cached_property
     def operand(self) -> Term | None:
-        """The expression that ends with the token before the fault, the greatest if there are several."""
+        """The expression that ends with the token before the fault, the greatest if there are
+        several.
+        """
         if not self.open or not self.open[-1].parts:
             return None
         last = self.open[-1].parts[-1]

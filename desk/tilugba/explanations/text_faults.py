@@ -31,24 +31,39 @@ def note_of(file: str, reading: Reading, cause: BadText) -> Note:
 
 def note_of_fault(file: str, reading: Reading, fault: Fault) -> Note:
     """The explanation of a fault that the parser has found."""
-    return Note(file, fault.kind, reading.source, reading.source.place(fault.at), tuple(told(reading, fault)))
+    return Note(
+        file,
+        fault.kind,
+        reading.source,
+        reading.source.place(fault.at),
+        tuple(told(reading, fault)),
+    )
 
 
 def fault_at(reading: Reading, place: Place, kind: str) -> Fault | None:
-    """The parser's fault at the place. It is looked for there first, so that a long text is not read whole."""
+    """The parser's fault at the place. It is looked for there first, so that a long text is not
+    read whole.
+    """
     at = reading.source.at(place)
     number = reading.segment_at(at)
     # Where a segment begins the one before it may lack its end.
     numbers = [number - 1, number] if number and reading.segments[number].at == at else [number]
     is_whole = reading.source.no_utf8_at is None and not reading.is_broken
     found = [reading.fault_of(it) for it in numbers] if is_whole else [reading.fault]
-    return next((it for it in found if it and it.kind == kind and reading.source.place(it.at) == place), None)
+    return next(
+        (it for it in found if it and it.kind == kind and reading.source.place(it.at) == place),
+        None,
+    )
 
 
 def told(reading: Reading, fault: Fault) -> list[str]:
     """What is said below the line: what stands there, what may stand there, and the cure."""
     scene = Scene(reading, fault)
-    lines = [f"{what_stands(reading, fault)}; {what_may_stand(fault)}" if fault.kind != "utf8" else "from here on the text is not UTF-8"]
+    lines = [
+        f"{what_stands(reading, fault)}; {what_may_stand(fault)}"
+        if fault.kind != "utf8"
+        else "from here on the text is not UTF-8"
+    ]
     cure = cures.cure(scene)
     return lines + ([cure] if cure else [])
 
@@ -64,7 +79,10 @@ def named(reading: Reading, fault: Fault) -> str:
     if fault.token.kind == tokens.END:
         return "the end of the text"
     if fault.token.kind == tokens.STRAY:
-        if reading.text[fault.at : fault.at + 64].isidentifier() and reading.text[fault.at].isascii():
+        if (
+            reading.text[fault.at : fault.at + 64].isidentifier()
+            and reading.text[fault.at].isascii()
+        ):
             return "a word of more than 64 characters"
         if reading.source.data.startswith(BYTE_ORDER_MARK, fault.at):
             return "a byte order mark"

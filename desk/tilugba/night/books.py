@@ -1,4 +1,6 @@
-"""The words of a night run, and its books. No result takes the place of another one, or of a file that is read."""
+"""The words of a night run, and its books. No result takes the place of another one, or of a file
+that is read.
+"""
 
 from __future__ import annotations
 
@@ -11,11 +13,14 @@ from ..command_line import FLAG, FORMS
 from ..program import Status, Stop
 
 PLACE = "{}"
-# What a night run keeps for itself in the folder of the results, and the end of the name of a fault.
+# What a night run keeps for itself in the folder of the results, and the end of the name of a
+# fault.
 OWN, FAULT = ".night-run", ".fault"
 LONGEST_NAME = 255
 # The options, with their dashes, behind which a word belongs to them.
-WITH_VALUE = frozenset(option for form in FORMS.values() for option, kind in form.options.items() if kind != FLAG)
+WITH_VALUE = frozenset(
+    option for form in FORMS.values() for option, kind in form.options.items() if kind != FLAG
+)
 
 
 def refused(message: str) -> Stop:
@@ -25,7 +30,9 @@ def refused(message: str) -> Stop:
 
 @dataclass(frozen=True)
 class Book:
-    """A book of the run: its name among the results, its words for the program, and those of them that name files, by their places."""
+    """A book of the run: its name among the results, its words for the program, and those of them
+    that name files, by their places.
+    """
 
     path: str
     name: str
@@ -33,8 +40,13 @@ class Book:
     files: dict[int, str]
 
     def has_special_file(self) -> bool:
-        """Whether a file is neither plain nor a folder, like a pipe, on which a run might wait for ever."""
-        return any(os.path.exists(it) and not os.path.isfile(it) and not os.path.isdir(it) for it in self.files.values())
+        """Whether a file is neither plain nor a folder, like a pipe, on which a run might wait for
+        ever.
+        """
+        return any(
+            os.path.exists(it) and not os.path.isfile(it) and not os.path.isdir(it)
+            for it in self.files.values()
+        )
 
 
 def places_of_files(words: Sequence[str]) -> list[int]:
@@ -70,12 +82,18 @@ def books_of(paths: Sequence[str], words: Sequence[str], out: str) -> list[Book]
     books = [book_of(path, words, places) for path in paths]
     names = set[str]()
     for book in books:
-        if book.name in ("", ".", "..", OWN) or book.name.endswith(FAULT) or len(os.fsencode(book.name + FAULT)) > LONGEST_NAME:
+        if (
+            book.name in ("", ".", "..", OWN)
+            or book.name.endswith(FAULT)
+            or len(os.fsencode(book.name + FAULT)) > LONGEST_NAME
+        ):
             raise refused(f"no result can have the name of {shown(book.path)}")
         if book.name in names:
             raise refused(f"two books have the name {shown(book.name)}")
         names.add(book.name)
-    written = {os.path.join(os.path.realpath(out), name + end) for name in names for end in ("", FAULT)}
+    written = {
+        os.path.join(os.path.realpath(out), name + end) for name in names for end in ("", FAULT)
+    }
     for file in sorted({file for book in books for file in book.files.values()}):
         if os.path.realpath(file) in written:
             raise refused(f"a result would take the place of {shown(file)}")

@@ -1,6 +1,7 @@
 """The folder of the results of a night run, which one run has at a time.
 
-A result is put there whole, with checksums of what it is and what it was made of. What no night run has written is left alone.
+A result is put there whole, with checksums of what it is and what it was made of. What no night run
+has written is left alone.
 """
 
 from __future__ import annotations
@@ -47,7 +48,9 @@ class Folder:
         except BlockingIOError as error:
             raise Stop(BUSY, f"another run has the folder {shown(out)}") from error
         except OSError as error:
-            raise refused(f"the folder {shown(out)} cannot be written to: {reason_of(error)}") from error
+            raise refused(
+                f"the folder {shown(out)} cannot be written to: {reason_of(error)}"
+            ) from error
 
     def close(self) -> None:
         self.lock.close()
@@ -90,7 +93,9 @@ class Folder:
         self.put(self.at(book.name + FAULT), f"status {status}\n".encode() + printed)
 
     def clear(self, book: Book) -> None:
-        """Removes what an earlier run has written of a book, so that nothing there is of other files than these."""
+        """Removes what an earlier run has written of a book, so that nothing there is of other
+        files than these.
+        """
         path = self.at(book.name)
         if os.path.lexists(path):
             if not os.path.exists(self.at(OWN, "sums", book.name)):

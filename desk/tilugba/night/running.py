@@ -1,4 +1,6 @@
-"""The runs of a night: several at once, a second try of what the machine may have made fail, and the end by a signal."""
+"""The runs of a night: several at once, a second try of what the machine may have made fail, and
+the end by a signal.
+"""
 
 from __future__ import annotations
 
@@ -21,8 +23,12 @@ from .books import Book, refused
 from .folder import Folder, remove
 from .sums import Sums
 
-# What a book's files and words alone decide. Any other status is one of the machine, and tried once more.
-FINAL = frozenset(Status) - {Status.UNREAD, Status.NOT_WRITTEN, Status.MEMORY, Status.WORDS, Status.DESK}
+# What a book's files and words alone decide. Any other status is one of the machine, and tried once
+# more.
+FINAL = (
+    frozenset(Status)
+    - {Status.UNREAD, Status.NOT_WRITTEN, Status.MEMORY, Status.WORDS, Status.DESK}
+)
 SIGNALS = (signal.SIGHUP, signal.SIGINT, signal.SIGTERM)
 # A signal for all processes of a group ends a run before the main thread hears of it.
 UNTIL_HEARD = 0.2
@@ -40,7 +46,9 @@ class Signalled(Exception):
 
 @contextmanager
 def signals_raised() -> Iterator[None]:
-    """Signals raise `Signalled`, the first of them. One that is ignored, as below `nohup`, stays so."""
+    """Signals raise `Signalled`, the first of them. One that is ignored, as below `nohup`, stays
+    so.
+    """
 
     def stop(number: int, _: FrameType | None) -> None:
         for it in SIGNALS:
@@ -60,19 +68,28 @@ def signals_raised() -> Iterator[None]:
 
 @dataclass(frozen=True)
 class Made:
-    """What a result depends on, besides the words: the files of a book by the places of their names, and the program."""
+    """What a result depends on, besides the words: the files of a book by the places of their
+    names, and the program.
+    """
 
     files: dict[int, Sum]
     program: Sum
 
     def key(self, book: Book) -> str:
-        words = [(1, self.files[place].sha256) if place in self.files else (0, word) for place, word in enumerate(book.words)]
-        return hashlib.sha256(json.dumps([FORM_OF_KEYS, self.program.sha256, words]).encode()).hexdigest()
+        words = [
+            (1, self.files[place].sha256) if place in self.files else (0, word)
+            for place, word in enumerate(book.words)
+        ]
+        return hashlib.sha256(
+            json.dumps([FORM_OF_KEYS, self.program.sha256, words]).encode()
+        ).hexdigest()
 
 
 @dataclass(frozen=True)
 class Outcome:
-    """What became of a book: a status, a line that says most of it, whether it was done before, and what it was made of."""
+    """What became of a book: a status, a line that says most of it, whether it was done before, and
+    what it was made of.
+    """
 
     status: int
     line: str = ""
@@ -86,7 +103,9 @@ DONE = Outcome(Status.DONE)
 
 
 def tried(program: Program) -> Program:
-    """The program, tried once. A script like ./tilugba proves and builds it first if need be; what it built is then run itself."""
+    """The program, tried once. A script like ./tilugba proves and builds it first if need be; what
+    it built is then run itself.
+    """
     try:
         answer = program.run("sample", "1")
     except Stop as stop:
@@ -103,7 +122,9 @@ def tried(program: Program) -> Program:
 class Night:
     """Runs of a program on books, with a folder for the results."""
 
-    def __init__(self, program: Program, folder: Folder, done: Callable[[], None] = lambda: None) -> None:
+    def __init__(
+        self, program: Program, folder: Folder, done: Callable[[], None] = lambda: None
+    ) -> None:
         """`done` hears of each book that has an outcome at the first try."""
         self.program, self.folder, self.done = program, folder, done
         self.sums = Sums()
@@ -112,14 +133,20 @@ class Night:
         self.is_stopped = False
 
     def outcomes(self, books: Sequence[Book], jobs: int) -> list[Outcome]:
-        """What becomes of the books, of which those that the machine made fail are tried once more, alone."""
+        """What becomes of the books, of which those that the machine made fail are tried once more,
+        alone.
+        """
         found = self.settle_all(books, jobs, self.done)
         again = [place for place, it in enumerate(found) if it.status not in FINAL]
-        for place, outcome in zip(again, self.settle_all([books[place] for place in again], 1, lambda: None)):
+        for place, outcome in zip(
+            again, self.settle_all([books[place] for place in again], 1, lambda: None)
+        ):
             found[place] = outcome
         return found
 
-    def settle_all(self, books: Sequence[Book], jobs: int, done: Callable[[], None]) -> list[Outcome]:
+    def settle_all(self, books: Sequence[Book], jobs: int, done: Callable[[], None]) -> list[
+        Outcome
+    ]:
         """What becomes of these books. It waits in the main thread, where signals come."""
         with ThreadPoolExecutor(jobs) as pool:
             waiting: list[Future[Outcome]] = []
@@ -147,7 +174,12 @@ class Night:
             made = self.made_of(book)
             if made and self.folder.has(book, made.key(book)):
                 self.folder.drop_fault(book)
-                return Outcome(Status.DONE, was_done=True, made=made, time=os.stat(self.folder.at(book.name)).st_mtime)
+                return Outcome(
+                    Status.DONE,
+                    was_done=True,
+                    made=made,
+                    time=os.stat(self.folder.at(book.name)).st_mtime,
+                )
             self.folder.clear(book)
             if book.has_special_file():
                 return self.unread(book, "a file is no plain file")
@@ -207,5 +239,8 @@ class Night:
                 printed = file.read()
         self.folder.keep_fault(book, status, printed)
         lines = printed.decode("utf-8", "replace").splitlines()
-        told = next((line for line in lines if line.split(" ")[1:2] == ["refused"]), lines[0] if lines else "")
+        told = next(
+            (line for line in lines if line.split(" ")[1:2] == ["refused"]),
+            lines[0] if lines else "",
+        )
         return Outcome(status, told, printed=Sum.of(None, printed) if printed else None)

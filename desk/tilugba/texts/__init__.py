@@ -1,4 +1,6 @@
-"""Texts: tokens, one parser of the four grammars (portfolios of versions 1 and 2, payoff code, schedules), trees with places.
+"""Texts: tokens, one parser of the four grammars (portfolios of versions 1 and 2, payoff code,
+schedules), trees with places.
 
-`Reading` reads a text and has its first fault, as the program tells it, with what may stand at the place.
+`Reading` reads a text and has its first fault, as the program tells it, with what may stand at the
+place.
 """

@@ -1,6 +1,7 @@
 """The four grammars as data: portfolios of versions 1 and 2, payoff code, schedules.
 
-A form is written with a blank between its parts. What is in capitals is a part by its name, all else is a word or a mark.
+A form is written with a blank between its parts. What is in capitals is a part by its name, all
+else is a word or a mark.
 """
 
 from __future__ import annotations
@@ -50,7 +51,9 @@ OPERATORS = ("+", "-", "*", "<", "<=", ">", ">=", "=", "!=", "&", "|")
 
 
 class Grammar(NamedTuple):
-    """A grammar: its name, what a whole text is, and the words that begin a definition behind the declarations."""
+    """A grammar: its name, what a whole text is, and the words that begin a definition behind the
+    declarations.
+    """
 
     name: str
     word: str
@@ -122,8 +125,12 @@ def form(written: str, parts: Mapping[str, Part] = PARTS) -> Form:
     return tuple(parts[word] if word in parts else Exactly(word) for word in written.split())
 
 
-def expression_heads(expression: str, read: str, time: str, parts: Mapping[str, Part] = PARTS) -> dict[str, Form]:
-    """The forms of expressions by their first tokens, with the word that reads a label and when it is read."""
+def expression_heads(
+    expression: str, read: str, time: str, parts: Mapping[str, Part] = PARTS
+) -> dict[str, Form]:
+    """The forms of expressions by their first tokens, with the word that reads a label and when it
+    is read.
+    """
     written = {
         "true": "",
         "false": "",
@@ -140,7 +147,10 @@ def expression_heads(expression: str, read: str, time: str, parts: Mapping[str, 
         "div": "( MODE , PLACES , E , E )",
         "acc": "( BINDER , BIND E UNBIND , LENGTH , E )",
     }
-    named = {head: [expression if it == "E" else it for it in said.split()] for head, said in written.items()}
+    named = {
+        head: [expression if it == "E" else it for it in said.split()]
+        for head, said in written.items()
+    }
     return {head: form(" ".join([*said, "CLOSE"]), parts) for head, said in named.items()}
 
 
@@ -185,7 +195,9 @@ PARTS |= {
     "START_LINE": Lines(False, start=form("START ;")),
     "PARTY_LINES": Lines(True, party=form("NEW_PARTY MORE_PARTIES ;")),
     "ASSET_LINES": Lines(True, asset=form("NEW_ASSET DECIMALS MORE_ASSETS ;")),
-    "LABEL_LINES": Lines(True, num=form("NEW_LABEL : SCALE in LOWER .. UPPER ;"), flag=form("NEW_LABEL ;")),
+    "LABEL_LINES": Lines(
+        True, num=form("NEW_LABEL : SCALE in LOWER .. UPPER ;"), flag=form("NEW_LABEL ;")
+    ),
     "TEMPLATE_LINES": Lines(True, template=form(TEMPLATE_LINE)),
     "CONTRACT_LINES": Lines(True, contract=form(CONTRACT_LINE)),
     "PLAN_LINES": Lines(
@@ -195,9 +207,13 @@ PARTS |= {
         guarded=form(f"NEW_CONTRACT = {leg('FEW_TIMES')} until FLAG_LABEL covers NUMBER ;"),
     ),
 }
-DECLARATIONS = "amounts AMOUNTS ; ORIGIN_LINE START_LINE PARTY_LINES ASSET_LINES LABEL_LINES TEMPLATE_LINES"
+DECLARATIONS = (
+    "amounts AMOUNTS ; ORIGIN_LINE START_LINE PARTY_LINES ASSET_LINES LABEL_LINES TEMPLATE_LINES"
+)
 
-PORTFOLIO_TEXT, FURTHER_CONTRACTS = f"portfolio ONE_OR_TWO ; {DECLARATIONS} CONTRACT_LINES END", "CONTRACT_LINES END"
+PORTFOLIO_TEXT, FURTHER_CONTRACTS = (
+    f"portfolio ONE_OR_TWO ; {DECLARATIONS} CONTRACT_LINES END", "CONTRACT_LINES END"
+)
 
 PORTFOLIO = Grammar(
     "portfolio",

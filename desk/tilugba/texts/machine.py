@@ -1,4 +1,6 @@
-"""Reads tokens by a grammar: a stack of the parts that are expected. Each token is taken by the first of them, or is at fault."""
+"""Reads tokens by a grammar: a stack of the parts that are expected. Each token is taken by the
+first of them, or is at fault.
+"""
 
 from __future__ import annotations
 

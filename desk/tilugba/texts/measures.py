@@ -1,4 +1,5 @@
-"""What the text of a term and its declarations give in numbers: sorts, decimals, nodes, heights, days. They judge nothing.
+"""What the text of a term and its declarations give in numbers: sorts, decimals, nodes, heights,
+days. They judge nothing.
 
 A term may be as deep as a text may be, so trees are walked by lists and not by calls.
 """
@@ -26,11 +27,16 @@ class Kind(NamedTuple):
     decimals: int = 0
 
     def __str__(self) -> str:
-        return "a truth value" if self.sort == TRUTH else f"a number with {self.decimals} decimal{'s' * (self.decimals != 1)}"
+        return (
+            "a truth value"
+            if self.sort == TRUTH
+            else f"a number with {self.decimals} decimal{'s' * (self.decimals != 1)}"
+        )
 
 
 def inner_first(term: Term) -> Iterator[Term]:
-    """The terms, each behind those in it; what a name is bound to comes before where it is bound."""
+    """The terms, each behind those in it; what a name is bound to comes before where it is bound.
+    """
     order: list[Term] = []
     rest = [term]
     while rest:
@@ -68,7 +74,9 @@ class Measures:
         for it in inner_first(self.term):
             if it.sort == trees.EXPRESSION:
                 named = bound.get(it.binder)
-                known[it.at] = known.get(named.at) if named else self.kind_of(it, [known[part.at] for part in it.parts])
+                known[it.at] = known.get(named.at) if named else self.kind_of(
+                    it, [known[part.at] for part in it.parts]
+                )
         return known
 
     def kind_of(self, term: Term, parts: list[Kind | None]) -> Kind | None:
@@ -131,8 +139,9 @@ class Measures:
 
     @cached_property
     def reaches(self) -> dict[int, int]:
-        """The days by which the latest part of each contract may stand later than it. A `loop` of code moves only what it enters once its
-        test is true."""
+        """The days by which the latest part of each contract may stand later than it. A `loop` of
+        code moves only what it enters once its test is true.
+        """
 
         def of(term: Term, parts: list[int]) -> int:
             if term.form == "loop":
@@ -157,7 +166,9 @@ class Measures:
 
     @cached_property
     def works(self) -> dict[int, int]:
-        """The steps in which each term is evaluated: a test counts once for each day, and the body of `acc` too."""
+        """The steps in which each term is evaluated: a test counts once for each day, and the body
+        of `acc` too.
+        """
 
         def of(term: Term, parts: list[int]) -> int:
             if term.form == "acc":
@@ -180,20 +191,31 @@ class Measures:
         if term.sort == trees.EXPRESSION:
             return 0
         templates = self.declared.names(NameSet.TEMPLATE)
-        return sum(int(it) for it in term.told("days")) + sum(templates[it].days or 0 for it in term.told("template"))
+        return (
+            sum(int(it) for it in term.told("days"))
+            + sum(templates[it].days or 0 for it in term.told("template"))
+        )
 
 
 def date_of(term: Term, declared: Declarations) -> int:
     """The number of a date of code, with those of its templates."""
     templates = declared.names(NameSet.TEMPLATE)
-    return sum(int(it) for it in term.told("date")) + sum(templates[it].days or 0 for it in term.told("template"))
+    return (
+        sum(int(it) for it in term.told("date"))
+        + sum(templates[it].days or 0 for it in term.told("template"))
+    )
 
 
 def wanted_sorts(term: Term) -> list[str]:
-    """The sorts that the parts of an operation have to be of; nothing of a form that takes either."""
+    """The sorts that the parts of an operation have to be of; nothing of a form that takes either.
+    """
     operator = "".join(term.told("operator"))
     if operator:
         return [TRUTH, TRUTH] if operator in LOGIC else [NUMBER, NUMBER]
     if term.form == "not":
         return [TRUTH]
-    return [NUMBER] * len(term.parts) if term.form in ("neg", "min", "max", "widen", "round", "div") else []
+    return (
+        [NUMBER] * len(term.parts)
+        if term.form in ("neg", "min", "max", "widen", "round", "div")
+        else []
+    )

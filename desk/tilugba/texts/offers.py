@@ -14,7 +14,9 @@ GREATEST_DECIMALS = 27
 
 
 def whole_number(text: str, most: int) -> int | None:
-    """The number of digits, if it is at most this. A text may be longer than Python makes a number of."""
+    """The number of digits, if it is at most this. A text may be longer than Python makes a number
+    of.
+    """
     digits = text.lstrip("0") or "0"
     if len(digits) > len(str(most)):
         return None
@@ -26,7 +28,9 @@ def mantissa_of(text: str) -> tuple[int, int] | None:
     """The mantissa and the decimals of a number, if they are within the limits of texts."""
     digits, _, decimals = text.partition(".")
     mantissa = whole_number(digits + decimals, GREATEST_MANTISSA)
-    return None if mantissa is None or len(decimals) > GREATEST_DECIMALS else (mantissa, len(decimals))
+    return (
+        None if mantissa is None or len(decimals) > GREATEST_DECIMALS else (mantissa, len(decimals))
+    )
 
 
 def number_told(mantissa: int, decimals: int) -> str:
@@ -37,7 +41,8 @@ def number_told(mantissa: int, decimals: int) -> str:
 
 
 class Numbers(NamedTuple):
-    """Numbers with at most so many decimals, within bounds that are counted in the last of these."""
+    """Numbers with at most so many decimals, within bounds that are counted in the last of these.
+    """
 
     decimals: int
     low: int | None = None
@@ -48,7 +53,9 @@ class Numbers(NamedTuple):
         if written is None or written[1] > self.decimals:
             return False
         number = written[0] * 10 ** (self.decimals - written[1])
-        return (self.low is None or self.low <= number) and (self.high is None or number <= self.high)
+        return (
+            (self.low is None or self.low <= number) and (self.high is None or number <= self.high)
+        )
 
     @property
     def is_empty(self) -> bool:
@@ -106,7 +113,11 @@ class Offers:
         """Whether the token is one of them."""
         if token.kind == tokens.NAME:
             known = any(token.text in names for names in self.names.values())
-            return known or token.text in self.words or (self.new is not None and token.text not in self.taken)
+            return (
+                known
+                or token.text in self.words
+                or (self.new is not None and token.text not in self.taken)
+            )
         if token.kind == tokens.NUMBER:
             return any(it.has(token.text) for it in self.numbers)
         if token.kind == tokens.DATE:
@@ -119,10 +130,16 @@ class Offers:
         """Each of them in words; of more than so many names of a set the rest is counted."""
         said = [f"'{it}'" for it in self.words + self.marks]
         if self.new is not None:
-            said.append("a new name" if isinstance(self.new, str) else f"a new name of {article(self.new.value)}")
+            said.append(
+                "a new name"
+                if isinstance(self.new, str)
+                else f"a new name of {article(self.new.value)}"
+            )
         for kind, names in self.names.items():
             more = f" and {len(names) - most} more" if len(names) > most else ""
-            said.append(f"{kind}: {' '.join(names[:most])}{more}" if names else f"{kind} (none is declared)")
+            said.append(
+                f"{kind}: {' '.join(names[:most])}{more}" if names else f"{kind} (none is declared)"
+            )
         said += [it.told() for it in self.numbers]
         if self.date:
             said.append("a date YYYY-MM-DD")

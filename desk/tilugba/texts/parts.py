@@ -1,7 +1,8 @@
-"""The parts that a grammar is made of. Each takes a token, passes it on to the part behind, or refuses it; and each says what it takes.
+"""The parts that a grammar is made of. Each takes a token, passes it on to the part behind, or
+refuses it; and each says what it takes.
 
-A part that passes a token on is optional: it then counts as absent. At one token the first kind of fault counts of: syntax, number, date,
-deep, range, twice, unknown.
+A part that passes a token on is optional: it then counts as absent. At one token the first kind of
+fault counts of: syntax, number, date, deep, range, twice, unknown.
 """
 
 from __future__ import annotations
@@ -37,7 +38,9 @@ class Part:
     __slots__ = ()
 
     def take(self, token: Token, machine: Machine) -> bool:
-        """Whether it takes the token; if not, the part behind is asked. Raises what is wrong with a token that may not be here."""
+        """Whether it takes the token; if not, the part behind is asked. Raises what is wrong with a
+        token that may not be here.
+        """
         raise NotImplementedError
 
     def offers(self, machine: Machine) -> Offers:
@@ -101,7 +104,9 @@ class OneOf(Part):
 
 
 class Number(Part):
-    """A number; `judge` says what it may be. With a sign before it the place is that of the sign, and the fault's is that of the number."""
+    """A number; `judge` says what it may be. With a sign before it the place is that of the sign,
+    and the fault's is that of the number.
+    """
 
     __slots__ = ("role",)
 
@@ -231,7 +236,9 @@ class DecimalNumber(Number):
 
 
 class Bound(Number):
-    """A bound of a label: the lower one, or the upper one above that. It is held as a count of the label's last decimal."""
+    """A bound of a label: the lower one, or the upper one above that. It is held as a count of the
+    label's last decimal.
+    """
 
     __slots__ = ("is_upper",)
 
@@ -263,7 +270,11 @@ class Bound(Number):
         low, high = 0, GREATEST_MANTISSA
         if self.is_upper and label.low is not None:
             low, high = (low, min(high, -label.low)) if negative else (max(low, label.low), high)
-        return Numbers(label.decimals or 0, low if low > 0 else None, None if high == GREATEST_MANTISSA else high)
+        return Numbers(
+            label.decimals or 0,
+            low if low > 0 else None,
+            None if high == GREATEST_MANTISSA else high,
+        )
 
 
 class Signed(Part):
@@ -383,7 +394,9 @@ class Use(Part):
 
     def offers(self, machine: Machine) -> Offers:
         known = machine.declared.sets[self.kind].items()
-        names = [name for name, it in known if not self.sort or it.is_flag == (self.sort == "flags")]
+        names = [
+            name for name, it in known if not self.sort or it.is_flag == (self.sort == "flags")
+        ]
         return Offers(names={self.sort or self.kind.plural: names})
 
 
@@ -602,7 +615,9 @@ class ExpressionPart(TermPart):
         term = Term(self.sort, token.kind, token.at, token.end)
         if token.kind == tokens.NAME:
             term.binder = machine.binder_of(token.text)
-        term.arguments.append(Argument("number" if token.kind == tokens.NUMBER else "variable", token.text, token.at))
+        term.arguments.append(
+            Argument("number" if token.kind == tokens.NUMBER else "variable", token.text, token.at)
+        )
         machine.add(term)
         return True
 

@@ -1,7 +1,8 @@
 """Reads a whole text: its declarations, its definitions one by one, and its faults.
 
-A definition, which is a contract, code or a plan, is read apart from the others, and only when it is asked for. So what was read of one
-holds as long as its own text and the declarations stay (`Memory`).
+A definition, which is a contract, code or a plan, is read apart from the others, and only when it
+is asked for. So what was read of one holds as long as its own text and the declarations stay
+(`Memory`).
 """
 
 from __future__ import annotations
@@ -22,13 +23,17 @@ from .tokens import GAP, Source, Token
 from .trees import Statement
 
 # The reserved words with which statements begin.
-BEGINNINGS = "portfolio payoff amounts origin start party asset num flag template contract code".split()
+BEGINNINGS = (
+    "portfolio payoff amounts origin start party asset num flag template contract code".split()
+)
 
 
 def border() -> re.Pattern[str]:
-    """Where a statement ends: behind its semicolon, or before a word with which another one begins. Comments are passed over.
+    """Where a statement ends: behind its semicolon, or before a word with which another one begins.
+    Comments are passed over.
 
-    Each branch begins with a letter, by which a text is searched faster than by what stands before a word.
+    Each branch begins with a letter, by which a text is searched faster than by what stands before
+    a word.
     """
     words = [rf"{word[0]}(?<=\b{word[0]}){word[1:]}\b" for word in BEGINNINGS]
     return re.compile("|".join([r"#[^\n]*", ";", *words]), re.ASCII)
@@ -67,7 +72,9 @@ class Memory:
         self.under: dict[str, dict[str, Read]] = {}
 
     def read_under(self, declarations: str) -> dict[str, Read]:
-        """What was read under these declarations. Of those that were not asked for the longest, it is forgotten."""
+        """What was read under these declarations. Of those that were not asked for the longest, it
+        is forgotten.
+        """
         found = self.under.pop(declarations, {})
         while len(self.under) >= MOST_REMEMBERED:
             del self.under[next(iter(self.under))]
@@ -100,7 +107,9 @@ def grammar_of(text: str) -> Grammar:
 class Reading:
     """A text as it is read by a grammar."""
 
-    def __init__(self, data: bytes, grammar: Grammar | None = None, memory: Memory | None = None) -> None:
+    def __init__(
+        self, data: bytes, grammar: Grammar | None = None, memory: Memory | None = None
+    ) -> None:
         self.source = Source(data)
         self.grammar = grammar or grammar_of(self.source.text)
         self.segments = segments(self.source.text)
@@ -125,9 +134,14 @@ class Reading:
     # ---- the declarations
 
     def read_header(self) -> None:
-        """Reads the statements before the first definition. Behind one that is at fault it goes on, if that was one of the lines."""
+        """Reads the statements before the first definition. Behind one that is at fault it goes on,
+        if that was one of the lines.
+        """
         for number in range(len(self.segments)):
-            if FIRST_TOKEN.match(self.text, self.segments[number].at)[1] in self.grammar.definitions:
+            if (
+                FIRST_TOKEN.match(self.text, self.segments[number].at)[1]
+                in self.grammar.definitions
+            ):
                 break
             before = list(self.stack)
             read = self.read_segment(number, self.declared, self.stack)
@@ -158,14 +172,17 @@ class Reading:
 
     @property
     def definitions(self) -> range:
-        """The numbers of the segments behind the declarations; the last one has no statement in a text without a fault."""
+        """The numbers of the segments behind the declarations; the last one has no statement in a
+        text without a fault.
+        """
         return range(0) if self.is_broken else range(len(self.header), len(self.segments))
 
     def read(self, number: int) -> Read:
         """What a segment says; a definition is read when it is first asked for."""
         if number < len(self.header):
             return self.header[number]
-        # What may stand before the first definition is more than before the others, and more is expected of the last segment.
+        # What may stand before the first definition is more than before the others, and more is
+        # expected of the last segment.
         if number == len(self.header) or number == len(self.segments) - 1:
             if number not in self.at_ends:
                 self.at_ends[number] = self.read_definition(number)
@@ -191,7 +208,12 @@ class Reading:
         names: dict[str, int] = {}
         for number in self.definitions:
             found = BEGINNING.match(self.text, self.segments[number].at)
-            if found and found[1] in self.grammar.definitions and found[2] and found[2] not in tokens.RESERVED:
+            if (
+                found
+                and found[1] in self.grammar.definitions
+                and found[2]
+                and found[2] not in tokens.RESERVED
+            ):
                 names.setdefault(found[2], number)
         return names
 
@@ -211,7 +233,11 @@ class Reading:
         if self.is_broken and number >= len(self.header):
             return Offers()
         declared, stack = self.state_before(number)
-        before = [token for token in tokens.tokens(self.text, self.segments[number].at, at) if token.kind != tokens.END]
+        before = [
+            token
+            for token in tokens.tokens(self.text, self.segments[number].at, at)
+            if token.kind != tokens.END
+        ]
         machine = Machine(declared, stack)
         fault = machine.read([*before, NO_TOKEN])
         return fault.offers if fault and fault.token is NO_TOKEN else Offers()
@@ -241,7 +267,11 @@ class Reading:
             return twice
         if read.fault:
             token = read.fault.token
-            return Fault(read.fault.kind, token._replace(at=base + token.at), self.offers_in(number, read.fault.offers))
+            return Fault(
+                read.fault.kind,
+                token._replace(at=base + token.at),
+                self.offers_in(number, read.fault.offers),
+            )
         if read.missing:
             behind = next(tokens.tokens(self.text, self.segments[number].end))
             return Fault("syntax", behind, self.offers_in(number, read.missing))
@@ -259,7 +289,11 @@ class Reading:
 
     def offers_in(self, number: int, offers: Offers) -> Offers:
         """What may stand in a segment, by what was read of it apart from the others."""
-        return self.new_names(number) if number >= len(self.header) and offers.new is NameSet.CONTRACT else offers
+        return (
+            self.new_names(number)
+            if number >= len(self.header) and offers.new is NameSet.CONTRACT
+            else offers
+        )
 
     def new_names(self, number: int) -> Offers:
         """What may stand where a definition has its name."""
@@ -267,7 +301,9 @@ class Reading:
         return Offers(new=NameSet.CONTRACT, taken=before)
 
     def faults(self) -> Iterator[Fault]:
-        """The first fault of each statement that has one, in order. The first of them is the fault of the text."""
+        """The first fault of each statement that has one, in order. The first of them is the fault
+        of the text.
+        """
         if self.source.no_utf8_at is not None:
             yield Fault("utf8", Token(tokens.STRAY, "", self.source.no_utf8_at), Offers())
             return

@@ -1,6 +1,8 @@
-"""On which days a contract or code may read a label: the first and the last day of each read, counted from where the contract begins.
+"""On which days a contract or code may read a label: the first and the last day of each read,
+counted from where the contract begins.
 
-What is read depends on the rates, so these are the days on which it may be, and not those on which it is.
+What is read depends on the rates, so these are the days on which it may be, and not those on which
+it is.
 """
 
 from __future__ import annotations

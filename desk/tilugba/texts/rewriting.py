@@ -20,7 +20,9 @@ REST_OF_LINE = re.compile(r"[ \t\r]*(?:#[^\n]*)?(?:\n|\Z)")
 
 
 class Edit(NamedTuple):
-    """The bytes from a place up to an end, and what stands there instead. With one place for both, it is put in there."""
+    """The bytes from a place up to an end, and what stands there instead. With one place for both,
+    it is put in there.
+    """
 
     at: int
     end: int

@@ -1,7 +1,7 @@
 """The tokens of a text, and places in it.
 
-A text is looked at as one character a byte, so a place counts bytes, as the program does. Tokens are ASCII; other bytes stand in
-comments alone.
+A text is looked at as one character a byte, so a place counts bytes, as the program does. Tokens
+are ASCII; other bytes stand in comments alone.
 """
 
 from __future__ import annotations
@@ -13,17 +13,21 @@ from functools import cached_property
 from itertools import accumulate
 from typing import NamedTuple
 
-WORD, NAME, NUMBER, DATE, MARK, END, STRAY = "word", "name", "number", "date", "mark", "end", "stray"
+WORD, NAME, NUMBER, DATE, MARK, END, STRAY = (
+    "word", "name", "number", "date", "mark", "end", "stray"
+)
 
 RESERVED = frozenset(
-    "portfolio payoff amounts origin start party asset num flag in template contract code zero pay both scale after let if within"
-    " then else true false obs neg not min max widen round div acc none add loop upto cut model half_even half_away floor ceil".split()
+    "portfolio payoff amounts origin start party asset num flag in template contract code zero pay "
+    "both scale after let if within then else true false obs neg not min max widen round div acc "
+    "none add loop upto cut model half_even half_away floor ceil".split()
 )
 MARKS = (";", ",", ":", "=", "(", ")", "+", "-", "*", "<", "<=", ">", ">=", "!=", "&", "|", "..")
 BYTE_ORDER_MARK = b"\xef\xbb\xbf"
 
 GAP = r"[ \t\r\n]*(?:#[^\n]*[ \t\r\n]*)*"
-# What follows a gap: a token, the end, or a byte at which no token begins. A word has at most 64 bytes.
+# What follows a gap: a token, the end, or a byte at which no token begins. A word has at most 64
+# bytes.
 TOKEN = re.compile(
     GAP + r"(?:(?P<word>[A-Za-z_][A-Za-z0-9_]{0,63}(?![A-Za-z0-9_]))"
     r"|(?P<date>[0-9]{4}-[0-9]{2}-[0-9]{2}(?![0-9]))|(?P<number>[0-9]+(?:[.][0-9]+)?)"
@@ -34,7 +38,9 @@ KINDS = ("", WORD, DATE, NUMBER, MARK, END, STRAY)
 
 
 class Token(NamedTuple):
-    """A token: its kind, its text, and the place of its first byte. The end and a stray byte have no text."""
+    """A token: its kind, its text, and the place of its first byte. The end and a stray byte have
+    no text.
+    """
 
     kind: str
     text: str
@@ -46,7 +52,9 @@ class Token(NamedTuple):
 
 
 def tokens(text: str, at: int = 0, end: int | None = None) -> Iterator[Token]:
-    """The tokens of a part of a text, up to its end or to a byte at which none begins, which is the last one."""
+    """The tokens of a part of a text, up to its end or to a byte at which none begins, which is the
+    last one.
+    """
     # A long text is mostly read here, so a token is made without a call of its own.
     make = tuple.__new__
     for found in TOKEN.finditer(text, at, len(text) if end is None else end):

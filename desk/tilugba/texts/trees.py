@@ -1,4 +1,6 @@
-"""The trees of a text: statements, and the terms in them. Places are those of bytes, counted from where the statement's text begins."""
+"""The trees of a text: statements, and the terms in them. Places are those of bytes, counted from
+where the statement's text begins.
+"""
 
 from __future__ import annotations
 
@@ -13,7 +15,9 @@ NUMBER, NAME, OPERATION = "number", "name", "("
 
 
 class Argument(NamedTuple):
-    """What stands in a term or a statement and is no term: what it is there, its text with a sign, and its place."""
+    """What stands in a term or a statement and is no term: what it is there, its text with a sign,
+    and its place.
+    """
 
     role: str
     text: str
