@@ -21,10 +21,16 @@ from pathlib import Path
 
 from .sources import Stop
 
-OPEN, CLOSED = ".data", ".data.rel.ro"
+OPEN, CLOSED, CODE = ".data", ".data.rel.ro", ".text"
 SHARED = "the library has variables, which threads would share"
 # A name of data or of zeros in a section that stays open, as nm tells it.
 OF_DATA = re.compile(r"^(.+) [dDbB] [0-9a-f]+ ", re.M)
+# The places of a section that the linker fills in, and a place with what it names.
+PLACES = re.compile(r"^RELOCATION RECORDS FOR \[(\S+)\]:\n(.*?)(?:\n\n|\Z)", re.M | re.S)
+PLACE = re.compile(r"^([0-9a-f]+) +\w+ +(\S+?)(?:[-+]0x[0-9a-f]+)?$", re.M)
+# The bytes before a place in the code that takes an address: `lea` of 64 bits, from here on. They
+# are looked at, and not what a disassembler says, which takes constants among the code for code.
+LEA = re.compile(rb"[\x48-\x4f]\x8d[\x05\x0d\x15\x1d\x25\x2d\x35\x3d]", re.S)
 # A section's name, address, size and flags.
 SECTION = re.compile(
     r"^ *\[ *\d+\] (\S+) +\w+ +([0-9a-f]+) +[0-9a-f]+ ([0-9a-f]+) +\d+ +([A-Za-z]*) ", re.M
@@ -34,25 +40,29 @@ RELRO = re.compile(r"^ *GNU_RELRO +\S+ +0x([0-9a-f]+) +\S+ +\S+ +0x([0-9a-f]+)",
 
 
 def closed(objects: Path, room: Path) -> Path:
-    """A copy of the objects in the room, whose `.data` is closed once it is loaded. Stops where an
+    """One object of all, in the room, whose `.data` is closed once it is loaded. Stops where an
     instruction does more with it than take an address, or where something in it has a name."""
-    names = OF_DATA.findall(said_by("nm", "--format=posix", str(objects)))
+    whole, code = room / "whole.o", room / "code"
+    said_by("ld", "-r", "-o", str(whole), "--whole-archive", str(objects))
+    names = OF_DATA.findall(said_by("nm", "--format=posix", str(whole)))
     if names:
         raise Stop(f"{SHARED}: look at {names[0]}")
-    for instruction, target in targets(objects):
-        if re.split(r"[-+]", target)[0] == OPEN and not instruction.startswith("lea "):
-            raise Stop(f"{SHARED}: look at `{instruction}` of {target}")
-    copy = room / "closed.a"
-    said_by("objcopy", "--rename-section", f"{OPEN}={CLOSED}", str(objects), str(copy))
-    return copy
+    said_by("objcopy", "-O", "binary", f"--only-section={CODE}", str(whole), str(code))
+    instructions = code.read_bytes()
+    for section, at in uses(whole):
+        if section != CODE or not LEA.fullmatch(instructions[max(at - 3, 0) : at]):
+            raise Stop(f"{SHARED}: look at what is done to {OPEN} at {at:#x} of {section}")
+    said_by("objcopy", "--rename-section", f"{OPEN}={CLOSED}", str(whole))
+    return whole
 
 
-def targets(objects: Path) -> Iterator[tuple[str, str]]:
-    """Each instruction that leaves a place to the linker, with what it names there."""
-    for line in said_by("objdump", "-drw", "--no-show-raw-insn", str(objects)).splitlines():
-        _, *told = line.split("\t")
-        # Behind the instruction stand pairs: the kind of a place, and its target.
-        yield from ((told[0], target) for target in told[2::2])
+def uses(whole: Path) -> Iterator[tuple[str, int]]:
+    """Each place outside of the open section that names it: the place's section, and where it is."""
+    for section, places in PLACES.findall(said_by("objdump", "-r", str(whole))):
+        if section != OPEN:
+            for at, target in PLACE.findall(places):
+                if target == OPEN:
+                    yield section, int(at, 16)
 
 
 def left_open(shared: Path) -> int:
