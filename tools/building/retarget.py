@@ -26,8 +26,8 @@ INTRINSICS = {
     "llvm.trap",
 }
 ATTRIBUTES = set(
-    """alwaysinline cold nobuiltin nocallback nocreateundeforpoison nofree noinline noreturn nosync
-    nounwind speculatable willreturn""".split()
+    """alwaysinline cold inlinehint nobuiltin nocallback nocreateundeforpoison nofree noinline
+    noreturn nosync nounwind speculatable willreturn""".split()
 )
 PROBES = '"probe-stack"="inline-asm" "stack-probe-size"="3072"'
 OF_X86 = f'{PROBES} "target-cpu"="x86-64-v2"'
