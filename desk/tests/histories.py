@@ -8,8 +8,8 @@ from collections import Counter
 from dataclasses import dataclass, field, replace
 from typing import Any
 
-from tests import random_portfolios
-from tests.random_portfolios import Place, Source, World, table_of
+from tests import random_books
+from tests.random_books import Place, Source, World, table_of
 from tests.support import the_program
 from tilugba.books.book import Book, File, book_of
 from tilugba.books.events import ADD, ADVANCE, AMEND, DROP, JOIN, NOVATE, PRUNE, Event, event
@@ -161,7 +161,7 @@ class History:
         """The lines of a part before today."""
         if part.text not in self.flows:
             labels = book_of(File("part.txt", part.text)).labels
-            found = random_portfolios.flows(the_program(), self.world, part.text, labels)
+            found = random_books.flows(the_program(), self.world, part.text, labels)
             self.flows[part.text] = found
         place = place_of(self.book().calendar)
         own = [it for it in self.flows[part.text] if it.split(",")[0] == part.name]
@@ -199,22 +199,22 @@ def with_parties(book: Book, names: tuple[str, ...]) -> Book:
 
 def a_history(dice: Any) -> History:
     """A random book, further deals for it, the true rates, and rates of which some are wrong."""
-    full = random_portfolios.declared(dice)
+    full = random_books.makers.some_decls(dice)
     while not full.labels:
-        full = random_portfolios.declared(dice)
-    first = random_portfolios.source(
-        dice, random_portfolios.narrowed(dice, full, full.start), "c", 7, 3
+        full = random_books.makers.some_decls(dice)
+    first = random_books.source(
+        dice, random_books.narrowed(dice, full, full.start), "c", 7, 3
     )
     others = []
     for prefix in "defg":
         start = max(0, full.start + dice.between(-5, 15))
         others.append(
-            random_portfolios.source(dice, random_portfolios.narrowed(dice, full, start), prefix, 3)
+            random_books.source(dice, random_books.narrowed(dice, full, start), prefix, 3)
         )
     world = World(dice, full)
     world.fill(full.start - 70, full.start + 110)
     for it in (first, *others):
-        random_portfolios.flows(
+        random_books.flows(
             the_program(), world, it.text, [name for name, _ in it.declared.labels]
         )
     return History(dice, world, wrong_world(dice, world, full.start), first, others, full.start)

@@ -10,8 +10,8 @@ from collections import Counter
 from collections.abc import Callable
 from typing import Any
 
-from tests import random_portfolios
-from tests.random_portfolios import Source, World
+from tests import random_books
+from tests.random_books import Source, World
 from tests.support import Ran, Room, run_desk, the_program
 from tilugba.books.book import File, book_of
 from tilugba.books.flow_lines import place_of
@@ -33,12 +33,12 @@ class Books(Room):
         """Two random books of the same origin and version, and all that is observed round their
         days.
         """
-        full = random_portfolios.declared(dice)
-        one = random_portfolios.source(
-            dice, random_portfolios.narrowed(dice, full, full.start), "c", count
+        full = random_books.makers.some_decls(dice)
+        one = random_books.source(
+            dice, random_books.narrowed(dice, full, full.start), "c", count
         )
-        other = random_portfolios.narrowed(dice, full, max(0, full.start + dice.between(-9, 9)))
-        two = random_portfolios.source(dice, other, prefix, count)
+        other = random_books.narrowed(dice, full, max(0, full.start + dice.between(-9, 9)))
+        two = random_books.source(dice, other, prefix, count)
         world = World(dice, full)
         world.fill(full.start - 70, full.start + 90)
         return one, two, world
@@ -48,7 +48,7 @@ class Books(Room):
         names = (
             [it for it, _ in source.declared.labels] if isinstance(source, Source) else list(labels)
         )
-        return random_portfolios.flows(the_program(), world, text, names)
+        return random_books.flows(the_program(), world, text, names)
 
 
 def due_in(text: str) -> list[str]:
@@ -75,9 +75,9 @@ class Properties(Books):
 
     def each(self, first: int, try_one: Callable[[Any], None]) -> None:
         """Tries dice of so many seeds; a failure names its seed."""
-        for seed, dice in enumerate(random_portfolios.seeds(first, COUNT), first):
+        for seed in range(first, first + COUNT):
             with self.subTest(seed=seed):
-                try_one(dice)
+                try_one(random_books.makers.Dice(seed))
             self.done += 1
 
     def labels(self, *sources: Source) -> set[str]:

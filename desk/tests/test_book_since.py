@@ -9,9 +9,9 @@ import unittest
 from collections import Counter
 from typing import Any
 
-from tests import random_portfolios
+from tests import random_books
 from tests.histories import History, a_history, wrong_world
-from tests.random_portfolios import World, table_of
+from tests.random_books import World, table_of
 from tests.support import Room, the_program
 from tilugba.books import folder, keeping, replaying
 from tilugba.books.book import File
@@ -64,10 +64,10 @@ class Histories(Room):
         """Tries dice of so many seeds; a failure names its seed. Few of them may end with an event
         that does not apply any more.
         """
-        for seed, dice in enumerate(random_portfolios.seeds(first, COUNT), first):
+        for seed in range(first, first + COUNT):
             with self.subTest(seed=seed):
                 try:
-                    try_one(dice)
+                    try_one(random_books.makers.Dice(seed))
                 except Stop as stop:
                     self.assertIn("does not apply any more", stop.message)
                     self.tried["not applied"] += 1

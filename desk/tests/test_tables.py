@@ -28,6 +28,15 @@ class Records(unittest.TestCase):
         data = b'a,b\r\n"c\n","d"\n'
         self.assertEqual(b"".join(it.data for it in records(data)), data)
 
+    def test_some_of_them_are_those_of_all(self) -> None:
+        chance = random.Random(1)
+        for _ in range(3_000):
+            data = bytes(chance.choice(b'a,"\r\n;') for _ in range(chance.randrange(14)))
+            found = {it.number: it for it in records(data)}
+            numbers = {number for number in range(1, 15) if chance.random() < 0.5}
+            some = {number: it for number, it in found.items() if number in numbers}
+            self.assertEqual(tables.records_numbered(data, numbers), some, data)
+
     def test_records_are_counted_as_the_program_does(self) -> None:
         """Random tables: a record whose label is not declared is the program's record of that
         number.
