@@ -1,5 +1,6 @@
 """The command itself: its subcommands, their words, and that no traceback reaches a user."""
 
+import io
 import os
 import subprocess
 import sys
@@ -9,6 +10,7 @@ from unittest import mock
 
 from tests.support import DESK, Room, run_desk
 from tilugba import cli
+from tilugba.desk import Desk
 from tilugba.program import Stop
 
 
@@ -83,6 +85,12 @@ class Processes(Room):
             ran.stderr,
             "tilugba-desk: this should not happen: ZeroDivisionError: division by zero\n",
         )
+
+    def test_a_file_with_a_name_of_any_bytes(self) -> None:
+        """Standard output has the bytes of the name, and Python has no word of its own for them."""
+        out = io.BytesIO()
+        Desk("some", self.folder, output=out).write(os.fsdecode(b"b\xfcch.txt:1:1: \xc3\xbc\n"))
+        self.assertEqual(out.getvalue(), b"b\xfcch.txt:1:1: \xc3\xbc\n")
 
     def test_output_that_cannot_be_written(self) -> None:
         """A disk that is full, and a pipe that nobody reads: one line, and Python says no more at
