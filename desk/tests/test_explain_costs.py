@@ -91,7 +91,7 @@ class Everywhere(Room):
 
     def test_what_is_loaded(self) -> None:
         """Each of these modules takes as long to load as a text to explain, and none of them is
-        asked for.
+        asked for. What a machine loads at each start of its Python is left aside.
         """
         book = self.file("book.txt", HEAD + "contract c = scale(1,5, zero);")
         dear = {
@@ -103,7 +103,7 @@ class Everywhere(Room):
             "print(cli.main(), *sorted(sys.modules))"
         )
         ran = subprocess.run(
-            [sys.executable, "-I", "-c", script],
+            [sys.executable, "-I", "-S", "-c", script],
             capture_output=True,
             text=True,
             env={"TILUGBA": str(the_program().path)},
