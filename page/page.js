@@ -117,11 +117,14 @@ async function run() {
   }
   say("");
   const roles = state.form.rolesOf().filter((it) => words.includes(ROLES[it].file));
+  const atRun = document.activeElement === by("run");
   shown.setRunning(true);
   by("status").textContent = "Running.";
   const asked = state.form.rolesOf().map((it) => [it, state.editors[it].contents]);
   const said = await state.runner.run(words, filesOf(roles));
   shown.setRunning(false);
+  // A button that is off for a moment loses the keyboard, which then goes on from elsewhere.
+  if (atRun && document.activeElement === document.body) by("run").focus({ preventScroll: true });
   const isInText = shown.show({ command: words[0], words, roles, asked, ...said });
   if (hasBegun && !isInText) by("answer").scrollIntoView({ block: "nearest" });
 }

@@ -527,6 +527,7 @@ class Walk:
         self.judge(text.endswith("EUR,3.60\n"), f"the key Enter on Run gives {text}")
         is_inside = "return Boolean(document.activeElement.closest('.CodeMirror'))"
         passed = []
+        self.do("by('run').focus()")
         for _ in range(40):
             self.browser.press(KEYS["tab"])
             passed.append(bool(self.do(is_inside)))
