@@ -28,11 +28,11 @@ use Rattle.expr_eval.specs.Fits.{Fits, OnValue, OnValues}
 use Rattle.expr_eval.specs.Comparing.{number_found}
 use Rattle.expr_eval.specs.Levels.{has_scale, is_amount, is_level, is_numeric, keeps_scale, stays_level}
 
-both_true : (a b : Bool) → (a && b) ≡ true → (a ≡ true) × (b ≡ true)
+pub both_true : (a b : Bool) → (a && b) ≡ true → (a ≡ true) × (b ≡ true)
 both_true true b h = (refl, h)
 both_true false b h = absurd (cc)
 
-same_scale : (i s : ℕ) → (i == s) ≡ true → i ≡ s
+pub same_scale : (i s : ℕ) → (i == s) ≡ true → i ≡ s
 same_scale i s h = grind (arith, nat_tests)
 
 of_scale : (k : Kind) (s : ℕ) → has_scale k s ≡ true → k ≡ Number s

@@ -11,6 +11,7 @@ pub mod StopFacts
 pub mod CompareFacts
 pub mod WatchFacts
 pub mod MovedFacts
+pub mod SumFacts
 pub mod PassFacts
 pub mod TruthFacts
 pub mod SearchFacts

@@ -11,6 +11,7 @@ pub mod Operators
 pub mod Evaluations
 pub mod Levels
 pub mod LevelDays
+pub mod Sums
 pub mod Stops
 pub mod Watching
 pub mod Passing

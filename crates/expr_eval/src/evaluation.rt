@@ -20,6 +20,7 @@ use crate::operations::{
 };
 use crate::operators::{OnOne, done_on_one};
 use crate::scratch::{Binding, Held, Scratch};
+use crate::sums::sum_over;
 use decimal::Mode;
 use fixing_files::Fixings;
 use term_model::{
@@ -324,6 +325,11 @@ pub fn evaluate_days(
 {
     let mut value = evaluate(decls, first, names, fixings, from)?;
     let level = stays_level(decls, body, names, value);
+    if level {
+        if let Some(sum) = sum_over(body, value, fixings, from, days) {
+            return Ok(sum);
+        }
+    }
     for i in 0..days {
         let day = days_later(from, i + 1);
         value = evaluate_day(decls, body, level, value, names, fixings, day)?;

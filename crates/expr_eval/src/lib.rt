@@ -27,6 +27,7 @@ mod operators;
 mod scratch;
 mod searches;
 mod stops;
+mod sums;
 mod trials;
 mod truths;
 mod values;

@@ -17,7 +17,7 @@ use crate::kinds::kind_observed;
 use crate::operations::{Typed, is_decided, number};
 use crate::stops::{Stop, is_wanted};
 use crate::truths::truth_bound;
-use crate::watches::{Trial, Watch, first_met};
+use crate::watches::{Trial, Watch, first_met, in_word};
 use fixing_files::Fixings;
 use term_model::{CmpOp, Decls, Expr, LogicOp, Missing, NumOp, day_read, days_later};
 
@@ -45,13 +45,6 @@ fn turned(op: CmpOp) -> CmpOp
         CmpOp::Equal => CmpOp::Equal,
         CmpOp::Unequal => CmpOp::Unequal,
     }
-}
-
-// A number in 64 bits.
-fn in_word(x: i128) -> Option<i64>
-    ensures { IfSome result (λ y. y ≡ x) }
-{
-    i64::try_from(x).ok()
 }
 
 // A number times a factor.

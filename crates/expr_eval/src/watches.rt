@@ -41,8 +41,8 @@ fn index_without_gaps(run: &[FixedDay], day: i64) -> Option<usize>
     }
 }
 
-// Where a day stands in a run, or where it would. Most runs have no gaps.
-fn index_of(run: &[FixedDay], day: i64) -> usize
+/// Where a day stands in a run, or where it would. Most runs have no gaps.
+pub fn index_of(run: &[FixedDay], day: i64) -> usize
     ensures { result < 2 ^ 63 }
 {
     if let Some(at) = index_without_gaps(run, day) {
@@ -52,6 +52,14 @@ fn index_of(run: &[FixedDay], day: i64) -> usize
         Ok(at) => at,
         Err(at) => at,
     }
+}
+
+/// A number in 64 bits.
+#[inline(always)]
+pub fn in_word(x: i128) -> Option<i64>
+    ensures { IfSome result (λ y. y ≡ x) }
+{
+    i64::try_from(x).ok()
 }
 
 /// A number times a factor, where a word holds it.
