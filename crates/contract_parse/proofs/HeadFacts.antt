@@ -18,6 +18,7 @@ use Rattle.contract_grammar.specs.Names.{back_to}
 use Rattle.contract_grammar.specs.Judgements.{literal_at, or_fault, signed_decimal, variable_at}
 use Rattle.contract_grammar.proofs.TokenKinds.{of_mark, of_word}
 use Rattle.contract_parse.specs.Heads.{Beginning, BeginsAmount, BeginsContract, BeginsForm, OfForm, OfName, OfNumber, amount_head_at, amount_head_of, first_at, first_name, first_number, first_of, first_word, form_at, greatest_depth, head_at, head_of, is_before_depth, leaf_word, within_depth}
+use Rattle.contract_parse.specs.AtOnce.{form_token, head_word}
 
 shallow_ok : {X : Type 0} (most d : ℕ) (b : Bool) (x : X) (deep r : Result X TextKind) → deep ≡ Err kind.Deep → nat_lt most d ≡ b → Ok x ≡ cond b deep r → (Ok x ≡ r) × (d ≤ most)
 shallow_ok most d true x deep r is test e = absurd cc
@@ -98,7 +99,7 @@ module _ (language : Language) (t : Tok) where
       choose (is_the_mark (codes "(") t) First.Open f _ e (λ h. h) (λ e. word_begins f e))
 
   -- that word is reserved, so it is no name, and a mark is none
-  begun : (f : First) (names : List Bytes) → BeginsForm language t f → first_of language names t ≡ Ok (OfForm f)
+  pub begun : (f : First) (names : List Bytes) → BeginsForm language t f → first_of language names t ≡ Ok (OfForm f)
   begun First.True names b = of_word (λ z. first_of language names z ≡ Ok (OfForm First.True)) (codes "true") t b refl
   begun First.False names b = of_word (λ z. first_of language names z ≡ Ok (OfForm First.False)) (codes "false") t b refl
   begun First.Minus names b = of_mark (λ z. first_of language names z ≡ Ok (OfForm First.Minus)) (codes "-") t b refl
@@ -162,6 +163,46 @@ module _ (language : Language) (t : Tok) where
         by_place : (o : Option ℕ) → back_to names t.text ≡ o → Err kind.Deep ≡ first_at language d names t
         by_place None is = deep_fault language d (first_of language names t) kind.Unknown (name_is_first names (Err kind.Unknown) other e (rw n (ap (or_fault kind.Unknown) is))) refl high
         by_place (Some back) is = deep_begins language d (first_of language names t) (OfName back) (name_is_first names (Ok back) other e (rw n (ap (or_fault kind.Unknown) is))) high
+
+-- the token of a form begins it
+pub form_token_begins : (l : Language) (f : First) (left : ℕ) → BeginsForm l (form_token l f left) f
+form_token_begins l First.True left = refl
+form_token_begins l First.False left = refl
+form_token_begins l First.Minus left = refl
+form_token_begins l First.Open left = refl
+form_token_begins Language.Contracts First.Obs left = refl
+form_token_begins Language.Code First.Obs left = refl
+form_token_begins l First.Neg left = refl
+form_token_begins l First.Not left = refl
+form_token_begins l First.Min left = refl
+form_token_begins l First.Max left = refl
+form_token_begins l First.If left = refl
+form_token_begins l First.Widen left = refl
+form_token_begins l First.Round left = refl
+form_token_begins l First.Div left = refl
+form_token_begins l First.Acc left = refl
+
+-- a word that is written as this token
+abbrev pub word_token : Bytes → ℕ → Tok
+word_token w left = record { kind = Word; text = w; left = left }
+
+pub head_of_word : (h : Head) (left : ℕ) → head_of (word_token (head_word h) left) ≡ Ok h
+head_of_word Head.Zero left = refl
+head_of_word Head.Pay left = refl
+head_of_word Head.Both left = refl
+head_of_word Head.Scale left = refl
+head_of_word Head.After left = refl
+head_of_word Head.Let left = refl
+head_of_word Head.If left = refl
+
+pub word_begins_contract : (h : Head) (left : ℕ) → BeginsContract (word_token (head_word h) left) h
+word_begins_contract Head.Zero left = refl
+word_begins_contract Head.Pay left = refl
+word_begins_contract Head.Both left = refl
+word_begins_contract Head.Scale left = refl
+word_begins_contract Head.After left = refl
+word_begins_contract Head.Let left = refl
+word_begins_contract Head.If left = refl
 
 module _ (t : Tok) where
   choose_head : (b : Bool) (x f : Head) (rest : Result Head TextKind) → Ok f ≡ cond b (Ok x) rest → (b ≡ true → BeginsContract t x) → (Ok f ≡ rest → BeginsContract t f) → BeginsContract t f

@@ -1,15 +1,15 @@
 -- What is spelled as one token is taken where it is expected.
-use Rattle.std.proofs.Common.{◌≡◌, ◌∙◌, ◌≤◌, ℕ, Bool, true, false, Result, Ok, Err, IfOk, IsErrAnd, List, [], ◌∷◌, length, refl, sym, subst, arith}
+use Rattle.std.proofs.Common.{◌≡◌, ◌∙◌, ◌≤◌, ℕ, Bool, true, false, Result, Ok, Err, IfOk, IsErrAnd, List, [], ◌∷◌, length, refl, sym, ap, subst, arith}
 use Rattle.std.specs.Str.{bytes_eq}
 use Rattle.std.proofs.lemmas.Result.{IfOk-weaker, err_from_is_err_and}
 use Rattle.contract_grammar.specs.Tokens.{Tok, tokens}
 use Rattle.contract_grammar.specs.Words.{Bytes, is_the_mark}
 use Rattle.contract_grammar.specs.Names.{DeclaredNames}
 use Rattle.contract_grammar.specs.Spelling.{Part, mark, one, valued, word}
-use Rattle.contract_parse.specs.Expecting.{Leaves, Outcome, Expected, TheMark, TheWord, Next, Open, run, step}
+use Rattle.contract_parse.specs.Expecting.{Leaves, Outcome, Expected, TheMark, TheWord, Next, Open, judged, run, step}
 use Rattle.contract_parse.specs.Reading.{LacksMark, tok_of, tokens_after}
 use Rattle.contract_parse.specs.declared.token.Lexeme.{Lexeme}
-use Rattle.contract_parse.specs.Readers.{Ahead, Going, Reads, ReadsAhead, ahead_in, ahead_of}
+use Rattle.contract_parse.specs.Readers.{Ahead, Going, PassesAnywhere, Reads, ReadsAhead, ahead_in, ahead_of}
 use Rattle.contract_parse.specs.declared.faults.PartErr.{PartErr}
 use Rattle.contract_parse.proofs.Steps.{run-next}
 use Rattle.contract_grammar.specs.declared.faults.TextKind.{TextKind}
@@ -72,3 +72,25 @@ read_on {X} {Goes} {part} {whole} behind t after rest result starts within is h 
   spelled = IfOk-weaker result _ _ (λ r x. is r (tokens rest) (tokens (behind r)) (subst (λ ts. part r ts (tokens (behind r))) (sym starts) x)) h.spelled;
   shorter = IfOk-weaker result _ _ (λ r x. omega (arith, x, within)) h.shorter;
 }
+
+-- what is read from the next token on is read
+pub behind_gap : {X : Type 0} {Goes : Going X} {part : X → Part} (behind : X → List ℕ) (start rest : List ℕ) (result : Result X PartErr)
+    → tokens start ≡ tokens rest → length start ≤ length rest → Reads Goes part behind start result → Reads Goes part behind rest result
+behind_gap {X} {Goes} {part} behind start rest result same within h = record {
+  follows = subst (λ ts. Goes (λ r. tokens (behind r)) ts result) same h.follows;
+  spelled = IfOk-weaker result _ _ (λ r x. subst (λ ts. part r ts (tokens (behind r))) same x) h.spelled;
+  shorter = IfOk-weaker result _ _ (λ r x. omega (arith, x, within)) h.shorter;
+}
+
+-- a value that stands at once is read from where its gap begins
+pub valued_at_once : {X Y : Type 0} (judge : Tok → Result Y TextKind) (value : X → Y) (behind : X → List ℕ) (expected : Expected) (r : X) (start rest : List ℕ)
+    → ((s : DeclaredNames) (ps : List Expected) (t : Tok) → step s (expected ∷ ps) t ≡ judged (judge t) (λ y. Next s ps))
+    → tokens start ≡ tokens rest → length (behind r) ≤ length rest → valued judge (value r) (tokens start) (tokens (behind r))
+    → Reads (PassesAnywhere (λ ps. expected ∷ ps)) (λ r. valued judge (value r)) behind rest (Ok r)
+valued_at_once judge value behind expected r start rest shape same within here =
+    let there = subst (λ ts. valued judge (value r) ts (tokens (behind r))) same here in
+    record {
+      follows = λ s ps. value_taken s s (expected ∷ ps) ps judge (value r) (tokens rest) (tokens (behind r)) (λ t e. shape s ps t ∙ ap (λ o. judged o (λ y. Next s ps)) e) there;
+      spelled = there;
+      shorter = within;
+    }

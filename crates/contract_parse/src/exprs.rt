@@ -12,17 +12,18 @@ ghost use Rattle.contract_parse.specs.Reading.{joined, tok_of};
 ghost use Rattle.contract_parse.specs.Heads.{form_at, greatest_depth};
 ghost use Rattle.contract_parse.specs.Readers.{Binds, KeepsLeaves, PassesAnywhere, Reads, ReadsAhead, ahead_in, ahead_of, behind_part, behind_sign, behind_word, first_token, name_part, number_part};
 
+use crate::at_once::literal_here;
 use crate::faults::PartErr;
 use crate::frame::Frame;
-use crate::heads::{First, form_at, greatest_depth};
-use crate::judges::refuse;
+use crate::heads::{First, first_here, form_at, greatest_depth};
+use crate::judges::{refuse, refuse_at};
 use crate::leaves::LeafReader;
 use crate::names::back_to;
 use crate::readers::{
     read_binder, read_integer, read_literal, read_mode, read_operator, skip_mark,
 };
 use crate::token::Lexeme;
-use crate::words::{is_name, is_number, next};
+use crate::words::{from_token, is_name, is_number, next};
 use contract_grammar::{Language, Operator, TextKind};
 use decimal::{Decimal, Mode, decimal_of};
 use std::alloc::Global;
@@ -529,9 +530,10 @@ fn read_name<'a>(
     }
 }
 
-/// An expression that stands in a frame, and the text after it.
+// The same of any token, or the fault of one that begins none.
 #[cycle(expr)]
-pub fn read_expr<'a, L: LeafReader>(
+#[inline(never)]
+fn read_any_expr<'a, L: LeafReader>(
     alloc: Global,
     leaves: &mut L,
     frame: &Frame,
@@ -546,6 +548,11 @@ pub fn read_expr<'a, L: LeafReader>(
     ensures kept { OnOk result (KeepsLeaves (L.leaf leaves.old) (L.leaf leaves.new)) }
 {
     let language = L::LANGUAGE;
+    if frame.depth < greatest_depth(language) {
+        if let Some((number, after)) = literal_here(rest) {
+            return Ok((literal(number), after));
+        }
+    }
     let (token, after) = next(rest);
     if is_number(&token) {
         return read_number(language, frame, &token, after);
@@ -564,4 +571,37 @@ pub fn read_expr<'a, L: LeafReader>(
         }
         None => read_name(language, frame, &token, after),
     }
+}
+
+/// An expression that stands in a frame, and the text after it. Its word or its parenthesis mostly
+/// stands at once, so that is looked at first.
+#[cycle(expr)]
+pub fn read_expr<'a, L: LeafReader>(
+    alloc: Global,
+    leaves: &mut L,
+    frame: &Frame,
+    rest: &'a [u8],
+) -> Result<(Expr, &'a [u8]), PartErr>
+    ensures reads { Reads
+        (PassesAt frame.now (λ s ps. an_expression_here L.LANGUAGE frame.now ∷ ps))
+        (λ r. expression_at (L.leaf leaves.new) frame.now r.0)
+        (λ r. r.1.now) rest.now result }
+    ensures high { IfOk result
+        (λ r. height (expression r.0) + frame.now.depth ≤ greatest_depth L.LANGUAGE) }
+    ensures kept { OnOk result (KeepsLeaves (L.leaf leaves.old) (L.leaf leaves.new)) }
+{
+    let language = L::LANGUAGE;
+    let start = from_token(rest);
+    let Some((first, after)) = first_here(language, start) else {
+        return read_any_expr(alloc, leaves, frame, start);
+    };
+    if frame.depth >= greatest_depth(language) {
+        return Err(refuse_at(TextKind::Deep, start));
+    }
+    let inner = Frame {
+        decls: frame.decls,
+        bound: frame.bound,
+        depth: frame.depth + 1,
+    };
+    read_behind_first(first, alloc, leaves, &inner, after)
 }

@@ -1,11 +1,13 @@
 //! What a term begins with.
-ghost use Rattle.std.specs.Prelude.{◌≡◌, ◌≤◌, ◌<◌, length, true};
+ghost use Rattle.std.specs.Prelude.{◌≡◌, ◌≤◌, ◌<◌, IfSome, length, true};
 ghost use Rattle.contract_grammar.specs.Words.{is_mark_kind, is_word_kind};
 ghost use Rattle.contract_parse.specs.Heads.{amount_head_at, amount_head_of, first_word, form_at, greatest_depth, head_at, head_of, or_none_begins};
 ghost use Rattle.contract_parse.specs.Reading.{tok_of};
+ghost use Rattle.contract_parse.specs.AtOnce.{form_here, head_word, word_here};
 ghost use Rattle.contract_grammar.specs.declared.terms.Language.{Language};
 
 use crate::token::Lexeme;
+use crate::words::{after_byte, after_the_word};
 use contract_grammar::{Language, LexemeKind, TextKind};
 use term_model::{MOST_HEIGHT, MOST_HEIGHT_OF_CODE};
 
@@ -145,6 +147,28 @@ pub fn form_at(language: Language, token: &Lexeme<'_>) -> Option<First>
     }
 }
 
+/// One of the usual words of expressions, or a parenthesis, that stands at once in a text, and the
+/// text after it.
+#[inline(always)]
+pub fn first_here(language: Language, start: &[u8]) -> Option<(First, &[u8])>
+    ensures found { IfSome result (λ r. form_here language r.0 start.now r.1.now) }
+    ensures shorter { IfSome result (λ r. length r.1.now < length start.now) }
+{
+    match start {
+        [b'(', ..] => Some((First::Open, after_byte(start, b"(")?)),
+        [b'o', ..] => match language {
+            Language::Contracts => Some((First::Obs, after_the_word(start, b"obs")?)),
+            Language::Code => None,
+        },
+        [b'r', ..] => Some((First::Round, after_the_word(start, b"round")?)),
+        [b'm', b'a', ..] => Some((First::Max, after_the_word(start, b"max")?)),
+        [b'm', b'i', ..] => Some((First::Min, after_the_word(start, b"min")?)),
+        [b'a', ..] => Some((First::Acc, after_the_word(start, b"acc")?)),
+        [b'i', ..] => Some((First::If, after_the_word(start, b"if")?)),
+        _ => None,
+    }
+}
+
 fn head_of(token: &Lexeme<'_>) -> Result<Head, TextKind>
     ensures { result ≡ head_of (tok_of token.now) }
 {
@@ -160,6 +184,24 @@ fn head_of(token: &Lexeme<'_>) -> Result<Head, TextKind>
         b"let" => Ok(Head::Let),
         b"if" => Ok(Head::If),
         _ => Err(TextKind::Syntax),
+    }
+}
+
+/// The word of a contract that stands at once in a text, and the text after it.
+#[inline(always)]
+pub fn head_here(start: &[u8]) -> Option<(Head, &[u8])>
+    ensures found { IfSome result (λ r. word_here (head_word r.0) start.now r.1.now) }
+    ensures shorter { IfSome result (λ r. length r.1.now < length start.now) }
+{
+    match start {
+        [b'z', ..] => Some((Head::Zero, after_the_word(start, b"zero")?)),
+        [b'p', ..] => Some((Head::Pay, after_the_word(start, b"pay")?)),
+        [b'b', ..] => Some((Head::Both, after_the_word(start, b"both")?)),
+        [b's', ..] => Some((Head::Scale, after_the_word(start, b"scale")?)),
+        [b'a', ..] => Some((Head::After, after_the_word(start, b"after")?)),
+        [b'l', ..] => Some((Head::Let, after_the_word(start, b"let")?)),
+        [b'i', ..] => Some((Head::If, after_the_word(start, b"if")?)),
+        _ => None,
     }
 }
 

@@ -15,6 +15,7 @@
 //! Only tested: that a text is read where there is memory (rows of `library_rows`).
 #![tactic(auto)]
 
+mod at_once;
 mod contrs;
 mod cursor;
 mod days;

@@ -17,7 +17,8 @@ pub struct Lexeme<'a> {
     pub left: usize,
 }
 
-fn is_digit(b: u8) -> bool
+/// Whether a byte is a digit.
+pub fn is_digit(b: u8) -> bool
     ensures { result ≡ is_digit b }
 {
     b.is_ascii_digit()

@@ -6,10 +6,12 @@ ghost use Rattle.contract_grammar.specs.Tokens.{is_last, tokens};
 ghost use Rattle.contract_grammar.specs.Words.{is_date, is_end, is_integer, is_name, is_number};
 ghost use Rattle.contract_grammar.specs.Words.{is_reserved, is_the_mark, is_the_word};
 ghost use Rattle.contract_grammar.specs.Words.{is_whole_mark};
+ghost use Rattle.contract_grammar.specs.NameTexts.{is_word_text};
 ghost use Rattle.contract_parse.specs.Reading.{LacksMark, tok_of, tokens_after, tokens_ahead};
+ghost use Rattle.contract_parse.specs.AtOnce.{word_here};
 
-use crate::token::{Lexeme, next_lexeme};
-use contract_grammar::{LexemeKind, is_reserved};
+use crate::token::{Lexeme, after_gap, next_lexeme};
+use contract_grammar::{LexemeKind, is_reserved, is_word_byte};
 
 /// The token that comes next, read ahead, and the text after it.
 #[derive(Clone, Copy)]
@@ -26,6 +28,34 @@ pub fn next(rest: &[u8]) -> (Lexeme<'_>, &[u8])
     ensures within { length result.1.now ≤ length rest.now }
 {
     next_lexeme(rest)
+}
+
+/// The text from its next token on.
+#[inline(always)]
+pub fn from_token(rest: &[u8]) -> &[u8]
+    ensures same { tokens result.now ≡ tokens rest.now }
+    ensures within { length result.now ≤ length rest.now }
+{
+    after_gap(rest)
+}
+
+/// The text after a word that stands at once in the text, and that no other byte prolongs. The
+/// usual words are found so, and need no token.
+#[inline(always)]
+pub fn after_the_word<'a>(start: &'a [u8], word: &[u8]) -> Option<&'a [u8]>
+    requires { is_word_text word.now ≡ true }
+    ensures found { IfSome result (λ r. word_here word.now start.now r.now) }
+    ensures shorter { IfSome result (λ r. length r.now < length start.now) }
+{
+    if start.len() <= word.len() {
+        return None;
+    }
+    let (text, after) = start.split_at(word.len());
+    if are_same(text, word) && !is_word_byte(after[0]) {
+        Some(after)
+    } else {
+        None
+    }
 }
 
 /// The same, as one value that a reader may hand on.

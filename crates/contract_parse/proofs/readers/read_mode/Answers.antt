@@ -1,19 +1,15 @@
-use Rattle.std.proofs.Common.{◌∷◌, refl, rules}
+use Rattle.std.proofs.Common.{refl, arith}
 use Rattle.contract_grammar.specs.Judgements.{mode_at}
-use Rattle.contract_parse.specs.Expecting.{ModeAt, Next}
-use Rattle.contract_parse.specs.Reading.{tok_of}
-use Rattle.contract_parse.proofs.Passing.{stopped}
-use Rattle.contract_parse.proofs.Steps.{passes, refuses, spells}
+use Rattle.contract_parse.specs.Expecting.{ModeAt}
+use Rattle.contract_parse.proofs.Passing.{behind_gap, valued_at_once}
 use Rattle.contract_parse.proofs.readers.read_mode.Goals as goal
 
-pub returns-in-Ok : goal.returns-in-Ok
-returns-in-Ok c = record {
-  reads = record {
-    follows = λ s ps. passes mode_at (λ text left. (refl, refl)) s s (ModeAt ∷ ps) ps (λ m. Next s ps) c.in-Ok.mode (tok_of c.next.result.0) c.args.rest.now c.next.result.1.now c.next.ensures.starts c.in-Ok.ensures refl refl;
-    spelled = spells mode_at (λ text left. (refl, refl)) c.in-Ok.mode (tok_of c.next.result.0) c.args.rest.now c.next.result.1.now c.next.ensures.starts c.in-Ok.ensures;
-    shorter = search rules;
-  };
+pub returns-in-Some : goal.returns-in-Some
+returns-in-Some c = record {
+  reads =
+      valued_at_once mode_at (λ r. r.0) (λ r. r.1.now) ModeAt c.in-Some.found c.from_token-start.result.now c.args.rest.now (λ s ps t. refl)
+      c.from_token-start.ensures.same (omega (arith, c.in-Some.ensures.shorter, c.from_token-start.ensures.within)) c.in-Some.ensures.found;
 }
 
-pub returns-in-Err : goal.returns-in-Err
-returns-in-Err c = record { reads = stopped (λ s ps. rw c.refuse.ensures (refuses mode_at s (ModeAt ∷ ps) (λ m. Next s ps) c.in-Err.kind (tok_of c.next.result.0) c.args.rest.now c.next.result.1.now c.next.ensures.starts c.in-Err.ensures refl)) }
+pub returns-in-None : goal.returns-in-None
+returns-in-None c = record { reads = behind_gap (λ r. r.1.now) c.from_token-start.result.now c.args.rest.now c.read_any_mode.result c.from_token-start.ensures.same c.from_token-start.ensures.within c.read_any_mode.ensures.reads }

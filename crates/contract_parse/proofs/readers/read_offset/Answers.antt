@@ -1,40 +1,25 @@
-use Rattle.std.proofs.lemmas.Int.{to_z-of_z}
-use Rattle.contract_parse.proofs.NumberFacts.{fits_small}
-use Rattle.std.proofs.Common.{w32, ◌≡◌, ◌∷◌, refl, sym, true, false, rules}
-use Rattle.std.specs.Prelude.{codes}
-use Rattle.std.proofs.lemmas.Result.{IfOk-weaker}
-use Rattle.contract_grammar.specs.Judgements.{offset_at}
-use Rattle.contract_grammar.specs.Words.{is_the_mark}
+use Rattle.std.proofs.Common.{◌∷◌, false, refl, arith, subst}
+use Rattle.contract_grammar.specs.Judgements.{integer_at}
+use Rattle.contract_grammar.specs.Spelling.{valued}
 use Rattle.contract_grammar.specs.Tokens.{tokens}
-use Rattle.contract_parse.specs.Expecting.{OffsetAt, OffsetNumber, Next, judged, step}
-use Rattle.contract_parse.specs.Reading.{tok_of}
-use Rattle.contract_parse.proofs.Steps.{passes, refuses, so_passes, so_spells, spells}
 use Rattle.contract_grammar.proofs.Parts.{followed_by}
+use Rattle.contract_parse.specs.Expecting.{OffsetAt}
+use Rattle.contract_parse.proofs.NumbersAtOnce.{offset_step, offset_valued}
+use Rattle.contract_parse.proofs.Passing.{behind_gap, value_taken}
 use Rattle.contract_parse.proofs.readers.read_offset.Goals as goal
 
-pub returns-then-is_the_mark : goal.returns-then-is_the_mark
-returns-then-is_the_mark c = record {
-  reads = record {
-    follows = λ s ps. rw (so_passes (is_the_mark (codes "-")) (λ text left. (refl, refl)) s s (OffsetAt ∷ ps) (OffsetNumber true ∷ ps) (judged (offset_at false (tok_of c.next.result.0)) (λ n. Next s ps)) (tok_of c.next.result.0) c.args.rest.now c.next.result.1.now c.next.ensures.starts c.if-is_the_mark.ensures refl) (c.read_offset_number.ensures.reads.follows s ps);
-    spelled = IfOk-weaker c.read_offset_number.result _ _ (λ r h. record { negative = true; spelled = followed_by (tokens c.next.result.1.now) (so_spells (is_the_mark (codes "-")) (λ text left. (refl, refl)) (tok_of c.next.result.0) c.args.rest.now c.next.result.1.now c.next.ensures.starts c.if-is_the_mark.ensures) h }) c.read_offset_number.ensures.reads.spelled;
-    shorter = search rules;
-  };
-}
+pub returns-in-Some : goal.returns-in-Some
+returns-in-Some c =
+    let rest = tokens c.args.rest.now in
+    let after = tokens c.in-Some.after.now in
+    let there = subst (λ ts. valued (integer_at 1_000_000) c.in-Some.number ts after) c.from_token-start.ensures.same c.in-Some.ensures.found in
+    record {
+      reads = record {
+        follows = λ s ps. value_taken s s (OffsetAt ∷ ps) ps (integer_at 1_000_000) c.in-Some.number rest after (offset_step s ps c.in-Some.number) there;
+        spelled = record { negative = false; spelled = followed_by rest refl (offset_valued c.in-Some.number rest after c.in-Some.ensures.most there) };
+        shorter = omega (arith, c.in-Some.ensures.shorter, c.from_token-start.ensures.within);
+      };
+    }
 
-pub returns-in-Ok : goal.returns-in-Ok
-returns-in-Ok c = record {
-  reads = record {
-    follows = λ s ps. let shape : step s (OffsetAt ∷ ps) (tok_of c.next.result.0) ≡ judged (offset_at false (tok_of c.next.result.0)) (λ n. Next s ps) = rw (sym c.if-is_the_mark.ensures) refl in passes (offset_at false) (λ text left. (refl, refl)) s s (OffsetAt ∷ ps) ps (λ n. Next s ps) c.in-Ok.offset (tok_of c.next.result.0) c.args.rest.now c.next.result.1.now c.next.ensures.starts c.in-Ok.ensures.value shape refl;
-    spelled = let same = to_z-of_z w32 c.in-Ok.offset (fits_small c.in-Ok.offset c.in-Ok.ensures.small) in rw same (record { negative = false; spelled = followed_by (tokens c.args.rest.now) refl (spells (offset_at false) (λ text left. (refl, refl)) c.in-Ok.offset (tok_of c.next.result.0) c.args.rest.now c.next.result.1.now c.next.ensures.starts c.in-Ok.ensures.value) });
-    shorter = search rules;
-  };
-}
-
-pub returns-in-Err : goal.returns-in-Err
-returns-in-Err c = record {
-  reads = record {
-    follows = λ s ps. let shape : step s (OffsetAt ∷ ps) (tok_of c.next.result.0) ≡ judged (offset_at false (tok_of c.next.result.0)) (λ n. Next s ps) = rw (sym c.if-is_the_mark.ensures) refl in rw c.refuse.ensures (refuses (offset_at false) s (OffsetAt ∷ ps) (λ n. Next s ps) c.in-Err.kind (tok_of c.next.result.0) c.args.rest.now c.next.result.1.now c.next.ensures.starts c.in-Err.ensures.value shape);
-    spelled = search rules;
-    shorter = search rules;
-  };
-}
+pub returns-in-None : goal.returns-in-None
+returns-in-None c = record { reads = behind_gap (λ r. r.1.now) c.from_token-start.result.now c.args.rest.now c.read_any_offset.result c.from_token-start.ensures.same c.from_token-start.ensures.within c.read_any_offset.ensures.reads }
