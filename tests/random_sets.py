@@ -9,6 +9,11 @@ from model import Term, World
 SCENARIOS = ("up", "down", "base", "Y2008", "_x", "total", "mean", "scenario", "EUR", "s" * 64)
 
 
+def order_of(decls, place):
+    """Where a place comes among others: by its label, as they are declared, and then by its day."""
+    return list(decls.label).index(place[0]), place[1]
+
+
 def some_rows(dice, decls, code, asked, world):
     """Rows of a set, [(scenario, place, value)], in which there is all that the code reads, and some more."""
     names = [dice.one(SCENARIOS) for _ in range(dice.between(1, 7))]
@@ -33,12 +38,16 @@ def some_rows(dice, decls, code, asked, world):
             rows.append((name, place, own.some_value(dice, decls.label[place[0]])))
         if not any(scenario == name for scenario, _, _ in rows):
             rows.append((name, *dice.one(list(fixed.items()))) if fixed else (name, *dice.one(list(world.items()))))
-    # Some rows are there twice, and some of those that hold in each scenario are said again of one.
-    rows += [dice.one(rows) for _ in range(dice.below(3))]
-    rows += [(dice.one(names), place, value) for scenario, place, value in rows if scenario == sets.EACH and dice.chance(10)]
+    # Half of the sets rise: the rows of each scenario are in the order of places.
+    rises = dice.chance(50)
+    if not rises or dice.chance(10):
+        # Some rows are there twice, and some of those that hold in each scenario are said again of one.
+        rows += [dice.one(rows) for _ in range(dice.below(3))]
+        rows += [(dice.one(names), place, value) for scenario, place, value in rows if scenario == sets.EACH and dice.chance(10)]
     if dice.chance(20):
         rows.pop(dice.below(len(rows)))
-    return [rows.pop(dice.below(len(rows))) for _ in range(len(rows))]
+    shuffled = [rows.pop(dice.below(len(rows))) for _ in range(len(rows))]
+    return sorted(shuffled, key=lambda row: order_of(decls, row[1])) if rises else shuffled
 
 
 def spoiled(dice, decls, record):

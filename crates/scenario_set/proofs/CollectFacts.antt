@@ -1,11 +1,14 @@
 -- A table of scenarios after one record more, and at the end.
 use Rattle.std.proofs.Common.{◌≡◌, ◌≢◌, ◌∙◌, ◌↔◌, ◌⊎◌, inl, inr, ℕ, zero, suc, ◌+◌, ◌<◌, ◌≤◌, ◌==◌, Bool, true, false, List, [], ◌∷◌, ◌++◌, length, Option, Some, None, Ok, slice_get, refl, sym, ap, subst, arith}
+use Rattle.std.specs.Prelude.{Contains}
 use Rattle.std.proofs.lemmas.Bool.{cases_Bool, cases_lt}
 use Rattle.std.proofs.lemmas.Bool.Decides.{nat_tests}
 use Rattle.std.proofs.lemmas.List.{length_push}
+use Rattle.std.proofs.lemmas.List.Elements.{Contains-append_left, Contains-push, Contains-push_cases}
 use Rattle.std.proofs.lemmas.Option.{slice_get_within}
 use Rattle.term_model.specs.Declarations.{Declarations}
 use Rattle.term_model.specs.Environments.{Place, same_place}
+use Rattle.term_model.specs.declared.values.Value.{Value}
 use Rattle.fixing_files.specs.Records.{Fields}
 use Rattle.fixing_files.specs.Tables.{StandsAt, Table, record_at}
 use Rattle.fixing_files.specs.declared.faults.RowKind.{RowKind}
@@ -15,11 +18,14 @@ use Rattle.scenario_set.specs.Scopes.{Meet, Scope}
 use Rattle.scenario_set.specs.ScenarioRecords.{Told, header, told}
 use Rattle.scenario_set.specs.ScenarioSteps.{is_header}
 use Rattle.scenario_set.specs.ScenarioTables.{Breaks, BreaksAlone, Conflicts, Contradicts, IsFirstFault, IsFirstOf, LacksHeader, Tells}
-use Rattle.scenario_set.specs.Collecting.{AreNamed, AreSeen, Clashes, Collects, IsIn, IsNumbered, IsSaid, Names, TakesRecord}
+use Rattle.scenario_set.specs.Collecting.{Agree, AreNamed, AreSeen, AreSound, Clashes, Collects, IsIn, IsNumbered, IsSaid, Names, TakesRecord}
 use Rattle.scenario_set.specs.Mentions.{FirstIs, IsSeen, next, told_of}
+use Rattle.scenario_set.specs.Rising.{row_told}
+use Rattle.scenario_set.specs.Settling.{row_for}
 use Rattle.scenario_set.specs.Watches.{IsUnseen, Kept, TakesMention, clash_in, group_of, seen_at, spot_of}
 use Rattle.scenario_set.specs.declared.drafts.Draft.{Draft}
 use Rattle.scenario_set.specs.declared.mentions.Mention.{Mention}
+use Rattle.scenario_set.specs.declared.scenarios.SetRow.{SetRow}
 use Rattle.scenario_set.specs.Mentions.{Seen}
 use Rattle.scenario_set.specs.declared.watches.Group.{Group}
 use Rattle.scenario_set.specs.declared.watches.Group.TheVariants.{All, Each, Of}
@@ -29,21 +35,43 @@ use Rattle.fixing_files.proofs.LayerFacts.{same_is, same_itself}
 use Rattle.scenario_set.proofs.RecordFacts.{header_from, not_both, other_from, same_told}
 use Rattle.scenario_set.proofs.SeenFacts.{IsApart, IsEither, first_of_both, next_seen, none_is_seen, seen_moves, told_first}
 
-up_to_next : (n m : ℕ) → n ≤ m + 1 → (n ≤ m) ⊎ (n ≡ m + 1)
+pub up_to_next : (n m : ℕ) → n ≤ m + 1 → (n ≤ m) ⊎ (n ≡ m + 1)
 up_to_next n m h = elim (cases_lt m n) [ inl above ↦ inr (omega arith) | inr within ↦ inl within ]
+
+-- the rows of each scenario, and those of all, are what the first m records say
+abbrev pub Say : Declarations → Table → ℕ → Names → (Option ℕ → List SetRow) → Type 0
+Say d table m names rows =
+    (o : Option ℕ) (q : Place) (v : Value)
+    → Contains (rows o) (row_for q v)
+    ↔ ((n : ℕ) × IsSaid d table m names (group_of o) q (record { number = n; value = v }))
+
+pub same_own : (o p : Option ℕ) → (o ≡ p) ⊎ (o ≢ p)
+same_own None None = inl refl
+same_own None (Some j) = inr (λ e. absurd (cc))
+same_own (Some i) None = inr (λ e. absurd (cc))
+same_own (Some i) (Some j) = elim (cases_Bool (i == j)) [
+  | inl same ↦ let at : i ≡ j = grind (arith, nat_tests) in inl (ap (λ (k : ℕ). Some k) at)
+  | inr other ↦ let apart : i ≢ j = λ e. grind (arith, nat_tests) in inr (λ e. apart (let at : i ≡ j = cc in at))
+]
 
 -- ---- before the first record
 
+pub alone_none : (d : Declarations) (table : Table) → AreSound d table 0
+alone_none d table n k few b = elim b [ inl h ↦ omega (arith, few, h.number) | inr h ↦ omega (arith, few, h.at.below_header) ]
+
+pub named_none : (d : Declarations) (table : Table) → AreNamed d table 0 []
+named_none d table = record {
+  few = omega arith;
+  named = λ i name e. absurd (cc);
+  listed = λ n t name few s e. absurd (omega (arith, few, s.at.below_header));
+  ordered = λ i j n k a b lt e f g h. absurd (cc);
+}
+
 pub collects_none : (d : Declarations) (table : Table) (kept : Kept) → IsUnseen kept → Collects d table 0 [] kept
 collects_none d table kept unseen = record {
-  alone = λ n k few b. elim b [ inl h ↦ omega (arith, few, h.number) | inr h ↦ omega (arith, few, h.at.below_header) ];
+  alone = alone_none d table;
   agree = λ n e few c. omega (arith, few, c.says.at.below_header);
-  are_named = record {
-    few = omega arith;
-    named = λ i name e. absurd (cc);
-    listed = λ n t name few s e. absurd (omega (arith, few, s.at.below_header));
-    ordered = λ i j n k a b lt e f g h. absurd (cc);
-  };
+  are_named = named_none d table;
   are_seen = λ g q. subst (λ (s : Seen). IsSeen (IsSaid d table 0 [] g q) s) (sym (unseen (spot_of g q)))
       (none_is_seen (IsSaid d table 0 [] g q) (λ x h. omega (arith, h.few, h.tells.at.below_header)));
 }
@@ -76,22 +104,32 @@ module _ (d : Declarations) (table : Table) (m : ℕ) (f : Fields) (stands : rec
 
   -- the header
 
+  pub header_alone : m + 1 ≡ 1 → is_header f ≡ true → AreSound d table (m + 1)
+  header_alone one is n k few b = elim b [
+    | inl h ↦ h.other (ap (record_at table) (sym one) ∙ stands ∙ ap (λ (g : Fields). Some g) (header_from f is))
+    | inr h ↦ omega (arith, few, one, h.at.below_header)
+  ]
+
+  pub header_named : (names : Names) → m + 1 ≡ 1 → AreNamed d table m names → AreNamed d table (m + 1) names
+  header_named names one c = record {
+    few = omega (arith, c.few);
+    named = λ i name e. let h = c.named i name e in (h.0, omega (arith, h.1), h.2);
+    listed = λ n t name few s e. absurd (omega (arith, few, one, s.at.below_header));
+    ordered = c.ordered;
+  }
+
+  -- no record before the header's end says anything
+  pub header_said : (names : Names) → m + 1 ≡ 1 → (g : Group) (q : Place) (x : Mention) → ¬ (IsSaid d table (m + 1) names g q x)
+  header_said names one g q x h = omega (arith, h.few, one, h.tells.at.below_header)
+
   pub collects_header : (names : Names) (kept : Kept) → m + 1 ≡ 1 → is_header f ≡ true → Collects d table m names kept → Collects d table (m + 1) names kept
   collects_header names kept one is c = record {
-    alone = λ n k few b. elim b [
-      | inl h ↦ h.other (ap (record_at table) (sym one) ∙ stands ∙ ap (λ (g : Fields). Some g) (header_from f is))
-      | inr h ↦ omega (arith, few, one, h.at.below_header)
-    ];
+    alone = header_alone one is;
     agree = λ n e few h. omega (arith, few, one, h.says.at.below_header);
-    are_named = record {
-      few = omega (arith, c.are_named.few);
-      named = λ i name e. let h = c.are_named.named i name e in (h.0, omega (arith, h.1), h.2);
-      listed = λ n t name few s e. absurd (omega (arith, few, one, s.at.below_header));
-      ordered = c.are_named.ordered;
-    };
+    are_named = header_named names one c.are_named;
     are_seen = λ g q. seen_moves (IsSaid d table m names g q) (IsSaid d table (m + 1) names g q)
         (λ x h. record { few = omega (arith, h.few); told = h.told; tells = h.tells; place = h.place; value = h.value; within = h.within })
-        (λ x h. absurd (omega (arith, h.few, one, h.tells.at.below_header)))
+        (λ x h. absurd (header_said names one g q x h))
         (seen_at kept (spot_of g q)) (c.are_seen g q);
   }
 
@@ -104,7 +142,7 @@ module _ (d : Declarations) (table : Table) (m : ℕ) (f : Fields) (stands : rec
     same_next : (n : ℕ) (u : Told) → n ≡ m + 1 → Tells d table n u → t ≡ u
     same_next n u is h = same_told d table (m + 1) t u tells_next (subst (λ (k : ℕ). Tells d table k u) is h)
 
-    next_alone : (n : ℕ) (k : RowKind) → n ≡ m + 1 → ¬ (LacksHeader table n k ⊎ BreaksAlone d table n k)
+    pub next_alone : (n : ℕ) (k : RowKind) → n ≡ m + 1 → ¬ (LacksHeader table n k ⊎ BreaksAlone d table n k)
     next_alone n k is (inl b) = omega (arith, is, two, b.number)
     next_alone n k is (inr b) = not_both d table (m + 1) t k tells_next (subst (λ (j : ℕ). BreaksAlone d table j k) is b)
 
@@ -116,7 +154,7 @@ module _ (d : Declarations) (table : Table) (m : ℕ) (f : Fields) (stands : rec
         pub grown : after ≡ names ++ name ∷ []
         pub absent : (j : ℕ) → slice_get names j ≢ Some name
 
-      abbrev Grows : Scope → Type 0
+      abbrev pub Grows : Scope → Type 0
       Grows s = (after ≡ names) ⊎ Adds s
 
       -- for which scenario the record counts
@@ -124,14 +162,14 @@ module _ (d : Declarations) (table : Table) (m : ℕ) (f : Fields) (stands : rec
       OwnIs None = t.scope ≡ None
       OwnIs (Some i) = (name : List ℕ) × (slice_get after i ≡ Some name) × (t.scope ≡ Some name)
 
-      grows_by : (s : Scope) (own : Option ℕ) → IsNumbered names after s own → Grows s
+      pub grows_by : (s : Scope) (own : Option ℕ) → IsNumbered names after s own → Grows s
       grows_by None own h = inl h.1
       grows_by (Some name) own h = elim h.2.from [
         | inl same ↦ inl same
         | inr more ↦ inr (record { name = name; scope = refl; grown = more.0; absent = more.1 })
       ]
 
-      own_by : (s : Scope) (own : Option ℕ) → t.scope ≡ s → IsNumbered names after s own → OwnIs own
+      pub own_by : (s : Scope) (own : Option ℕ) → t.scope ≡ s → IsNumbered names after s own → OwnIs own
       own_by None own e h = subst OwnIs (sym h.0) e
       own_by (Some name) own e h = subst OwnIs (sym h.1) (name, h.2.is, e)
 
@@ -207,7 +245,7 @@ module _ (d : Declarations) (table : Table) (m : ℕ) (f : Fields) (stands : rec
         few_by (inl same) = omega (arith, named.few, ap length same)
         few_by (inr adds) = omega (arith, named.few, ap length adds.grown, length_push names adds.name)
 
-        names_more : AreNamed d table (m + 1) after
+        pub names_more : AreNamed d table (m + 1) after
         names_more = record { few = few_by grows; named = named_by grows; listed = listed_next; ordered = ordered_by grows }
 
         -- the groups by the names that grew
@@ -222,15 +260,112 @@ module _ (d : Declarations) (table : Table) (m : ℕ) (f : Fields) (stands : rec
         in_back Each n u few s h = h
         in_back (Of i) n u few s h = (h.0, back_by grows i h.0 n u few s h.2 h.1, h.2)
 
-        module _ (kept : Kept) (were : AreSeen d table m names kept) where
-          abbrev Was : Group → Place → Mention → Type 0
-          Was g q x = IsSaid d table m after g q x
+        -- what the earlier records say, by the names that grew
 
+        abbrev Was : Group → Place → Mention → Type 0
+        Was g q x = IsSaid d table m after g q x
+
+        was_on : (g : Group) (q : Place) (x : Mention) → IsSaid d table m names g q x → Was g q x
+        was_on g q x h = record { few = h.few; told = h.told; tells = h.tells; place = h.place; value = h.value; within = in_on g h.told.scope h.within }
+
+        was_back : (g : Group) (q : Place) (x : Mention) → Was g q x → IsSaid d table m names g q x
+        was_back g q x h = record { few = h.few; told = h.told; tells = h.tells; place = h.place; value = h.value; within = in_back g x.number h.told h.few h.tells h.within }
+
+        -- the rows of each group with the record's
+
+        abbrev pub row : Mention
+        row = record { number = m + 1; value = t.value }
+
+        abbrev Is : Group → Place → Mention → Type 0
+        Is g q x = IsSaid d table (m + 1) after g q x
+
+        said_old : (g : Group) (q : Place) (x : Mention) → Was g q x → Is g q x
+        said_old g q x h = record { few = omega (arith, h.few); told = h.told; tells = h.tells; place = h.place; value = h.value; within = h.within }
+
+        said_new : (g : Group) (q : Place) → t.place ≡ q → IsIn after g t.scope → Is g q row
+        said_new g q e w = record { few = omega arith; told = t; tells = tells_next; place = e; value = refl; within = w }
+
+        said_cases : (g : Group) (q : Place) (x : Mention) → Is g q x → Was g q x ⊎ ((row ≡ x) × (t.place ≡ q) × IsIn after g t.scope)
+        said_cases g q x h = elim (up_to_next x.number m h.few) [
+          | inl within ↦ inl (record { few = within; told = h.told; tells = h.tells; place = h.place; value = h.value; within = h.within })
+          | inr here ↦
+              let same : t ≡ h.told = same_next x.number h.told here h.tells in
+              let value : t.value ≡ x.value = ap (λ (u : Told). u.value) same ∙ h.value in
+              let number : m + 1 ≡ x.number = sym here in
+              inr (λ i. record { number = number i; value = value i }, ap (λ (u : Told). u.place) same ∙ h.place, subst (λ (s : Scope). IsIn after g s) (ap (λ (u : Told). u.scope) (sym same)) h.within)
+        ]
+
+        -- the rows of scenarios, where the record's comes behind those of its own
+
+        own_in : (o : Option ℕ) → OwnIs o → IsIn after (group_of o) t.scope
+        own_in None is = is
+        own_in (Some i) is = is
+
+        own_only : (o : Option ℕ) → OwnIs o → (p : Option ℕ) → IsIn after (group_of p) t.scope → p ≡ o
+        own_only None is None w = refl
+        own_only None is (Some j) w = absurd (let wrong : ◌≡◌ {A = Scope} (Some w.0) None = sym w.2 ∙ is in cc)
+        own_only (Some i) is None w = absurd (let wrong : ◌≡◌ {A = Scope} (Some is.0) None = sym is.2 ∙ w in cc)
+        own_only (Some i) is (Some j) w =
+            let name : ◌≡◌ {A = Scope} (Some w.0) (Some is.0) = sym w.2 ∙ is.2 in
+            ap (λ (k : ℕ). Some k) (names_unique d table (m + 1) after names_more j i is.0 (w.1 ∙ name) is.1)
+
+        module _ (rows now : Option ℕ → List SetRow) (were : Say d table m names rows) (here : now own ≡ rows own ++ row_told t ∷ []) (others : (o : Option ℕ) → o ≢ own → now o ≡ rows o) where
+          abbrev SaidNow : Option ℕ → Place → Value → Type 0
+          SaidNow o q v = (n : ℕ) × Is (group_of o) q (record { number = n; value = v })
+
+          was_said : (o : Option ℕ) (q : Place) (v : Value) → Contains (rows o) (row_for q v) → SaidNow o q v
+          was_said o q v has =
+              let x = (were o q v).0 has in
+              let old : Mention = record { number = x.0; value = v } in
+              (x.0, said_old (group_of o) q old (was_on (group_of o) q old x.1))
+
+          had : (o : Option ℕ) (q : Place) (v : Value) (n : ℕ) → Was (group_of o) q (record { number = n; value = v }) → Contains (rows o) (row_for q v)
+          had o q v n h = (were o q v).1 (n, was_back (group_of o) q (record { number = n; value = v }) h)
+
+          hit_said : (q : Place) (v : Value) → Contains (rows own ++ row_told t ∷ []) (row_for q v) → SaidNow own q v
+          hit_said q v has = elim (Contains-push_cases (rows own) (row_told t) (row_for q v) has) [
+            | inl old ↦ was_said own q v old
+            | inr new ↦
+                let label : t.place.label ≡ q.label = ap (λ (r : SetRow). r.label) new in
+                let day : t.place.day ≡ q.day = ap (λ (r : SetRow). r.day) new in
+                let place : t.place ≡ q = λ i. record { label = label i; day = day i } in
+                let value : t.value ≡ v = ap (λ (r : SetRow). r.value) new in
+                (m + 1, subst (λ (w : Value). Is (group_of own) q (record { number = m + 1; value = w })) value (said_new (group_of own) q place (own_in own own_is)))
+          ]
+
+          hit_has : (q : Place) (v : Value) → SaidNow own q v → Contains (rows own ++ row_told t ∷ []) (row_for q v)
+          hit_has q v (n, h) = elim (said_cases (group_of own) q (record { number = n; value = v }) h) [
+            | inl old ↦ Contains-append_left (rows own) (row_told t ∷ []) (row_for q v) (had own q v n old)
+            | inr new ↦
+                let label : t.place.label ≡ q.label = ap (λ (p : Place). p.label) new.1 in
+                let day : t.place.day ≡ q.day = ap (λ (p : Place). p.day) new.1 in
+                let value : t.value ≡ v = ap (λ (x : Mention). x.value) new.0 in
+                let same : row_told t ≡ row_for q v = λ i. record { label = label i; day = day i; value = value i } in
+                subst (λ (r : SetRow). Contains (rows own ++ row_told t ∷ []) r) same (Contains-push (rows own) (row_told t))
+          ]
+
+          miss_has : (o : Option ℕ) (q : Place) (v : Value) → o ≢ own → SaidNow o q v → Contains (rows o) (row_for q v)
+          miss_has o q v apart (n, h) = elim (said_cases (group_of o) q (record { number = n; value = v }) h) [
+            | inl old ↦ had o q v n old
+            | inr new ↦ absurd (apart (own_only own own_is o new.2))
+          ]
+
+          pub say_next : Say d table (m + 1) after now
+          say_next o q v = elim (same_own o own) [
+            | inl same ↦
+                subst (λ (p : Option ℕ). Contains (now p) (row_for q v) ↔ SaidNow p q v) (sym same) (
+                  (λ has. hit_said q v (subst (λ (l : List SetRow). Contains l (row_for q v)) here has)),
+                  (λ h. subst (λ (l : List SetRow). Contains l (row_for q v)) (sym here) (hit_has q v h)),
+                )
+            | inr apart ↦ (
+              (λ has. was_said o q v (subst (λ (l : List SetRow). Contains l (row_for q v)) (others o apart) has)),
+              (λ h. subst (λ (l : List SetRow). Contains l (row_for q v)) (sym (others o apart)) (miss_has o q v apart h)),
+            )
+          ]
+
+        module _ (kept : Kept) (were : AreSeen d table m names kept) where
           seen : (g : Group) (q : Place) → IsSeen (Was g q) (seen_at kept (spot_of g q))
-          seen g q = seen_moves (IsSaid d table m names g q) (Was g q)
-              (λ x h. record { few = h.few; told = h.told; tells = h.tells; place = h.place; value = h.value; within = in_on g h.told.scope h.within })
-              (λ x h. record { few = h.few; told = h.told; tells = h.tells; place = h.place; value = h.value; within = in_back g x.number h.told h.few h.tells h.within })
-              (seen_at kept (spot_of g q)) (were g q)
+          seen g q = seen_moves (IsSaid d table m names g q) (Was g q) (was_on g q) (was_back g q) (seen_at kept (spot_of g q)) (were g q)
 
           -- what the record contradicts
 
@@ -313,30 +448,6 @@ module _ (d : Declarations) (table : Table) (m : ℕ) (f : Fields) (stands : rec
                 contradicts = against_to own own_is x first.0;
                 first = λ e c. first.1 (row_of e c) (against_from own own_is e c);
               }
-
-          -- the rows of each group with the record's
-
-          abbrev pub row : Mention
-          row = record { number = m + 1; value = t.value }
-
-          abbrev Is : Group → Place → Mention → Type 0
-          Is g q x = IsSaid d table (m + 1) after g q x
-
-          said_old : (g : Group) (q : Place) (x : Mention) → Was g q x → Is g q x
-          said_old g q x h = record { few = omega (arith, h.few); told = h.told; tells = h.tells; place = h.place; value = h.value; within = h.within }
-
-          said_new : (g : Group) (q : Place) → t.place ≡ q → IsIn after g t.scope → Is g q row
-          said_new g q e w = record { few = omega arith; told = t; tells = tells_next; place = e; value = refl; within = w }
-
-          said_cases : (g : Group) (q : Place) (x : Mention) → Is g q x → Was g q x ⊎ ((row ≡ x) × (t.place ≡ q) × IsIn after g t.scope)
-          said_cases g q x h = elim (up_to_next x.number m h.few) [
-            | inl within ↦ inl (record { few = within; told = h.told; tells = h.tells; place = h.place; value = h.value; within = h.within })
-            | inr here ↦
-                let same : t ≡ h.told = same_next x.number h.told here h.tells in
-                let value : t.value ≡ x.value = ap (λ (u : Told). u.value) same ∙ h.value in
-                let number : m + 1 ≡ x.number = sym here in
-                inr (λ i. record { number = number i; value = value i }, ap (λ (u : Told). u.place) same ∙ h.place, subst (λ (s : Scope). IsIn after g s) (ap (λ (u : Told). u.scope) (sym same)) h.within)
-          ]
 
           module _ (now : Kept) where
             abbrev Ends : Group → Place → Type 0
@@ -447,16 +558,16 @@ module _ (d : Declarations) (table : Table) (m : ℕ) (f : Fields) (stands : rec
   breaks_next k (inr (two, inr (t, meaning, h))) = inr (inr (inl (h.0, h.1, conflict_at two t meaning h.0 h.2)))
 
 -- none of the first records breaks a rule
-pub none_breaks : (d : Declarations) (table : Table) (m : ℕ) (names : Names) (kept : Kept) → Collects d table m names kept → m ≤ length table → (n : ℕ) (k : RowKind) → n ≤ m → ¬ (Breaks d table n k)
-none_breaks d table m names kept c within n k few (inl b) = c.alone n k few (inl b)
-none_breaks d table m names kept c within n k few (inr (inl b)) = c.alone n k few (inr b)
-none_breaks d table m names kept c within n k few (inr (inr (inl b))) = c.agree n b.0 few b.2.contradicts
-none_breaks d table m names kept c within n k few (inr (inr (inr b))) = omega (arith, few, within, b.number)
+pub none_breaks : (d : Declarations) (table : Table) (m : ℕ) → AreSound d table m → Agree d table m → m ≤ length table → (n : ℕ) (k : RowKind) → n ≤ m → ¬ (Breaks d table n k)
+none_breaks d table m alone agree within n k few (inl b) = alone n k few (inl b)
+none_breaks d table m alone agree within n k few (inr (inl b)) = alone n k few (inr b)
+none_breaks d table m alone agree within n k few (inr (inr (inl b))) = agree n b.0 few b.2.contradicts
+none_breaks d table m alone agree within n k few (inr (inr (inr b))) = omega (arith, few, within, b.number)
 
 first_fault : (d : Declarations) (table : Table) (m : ℕ) (names : Names) (kept : Kept) → Collects d table m names kept → m ≤ length table → (k : RowKind) → Breaks d table (m + 1) k → IsFirstFault d table (record { row = m + 1; kind = k })
 first_fault d table m names kept c within k b = record {
   breaks = b;
-  first = λ n l h. elim (cases_lt m n) [ inl above ↦ omega (arith, above) | inr few ↦ absurd (none_breaks d table m names kept c within n l few h) ];
+  first = λ n l h. elim (cases_lt m n) [ inl above ↦ omega (arith, above) | inr few ↦ absurd (none_breaks d table m c.alone c.agree within n l few h) ];
 }
 
 pub next_fault : (d : Declarations) (table : Table) (m : ℕ) (f : Fields) (stands : record_at table (m + 1) ≡ Some f) (before after : Draft) → Collects d table m before.names.keys before.watch

@@ -40,7 +40,7 @@ rows_other (x ∷ each) zero (suc j) s apart = refl
 rows_other (x ∷ each) (suc i) zero s apart = refl
 rows_other (x ∷ each) (suc i) (suc j) s apart = rows_other each i j s (λ e. apart (ap (λ (n : ℕ). suc n) e))
 
-rows_read : (each : List Scenario) (i : ℕ) (d : Scenario) → i < length each → rows_at each i ≡ (get_or each i d).own.items
+pub rows_read : (each : List Scenario) (i : ℕ) (d : Scenario) → i < length each → rows_at each i ≡ (get_or each i d).own.items
 rows_read [] i d within = absurd (omega (arith, within))
 rows_read (x ∷ each) zero d within = refl
 rows_read (x ∷ each) (suc i) d within = rows_read each i d (omega (arith, within))
@@ -59,11 +59,11 @@ puts_own each i old s row within read name rows = record {
 
 -- ---- scenarios without rows
 
-names_push : (each : List Scenario) (s : Scenario) → names_of (each ++ s ∷ []) ≡ names_of each ++ s.name ∷ []
+pub names_push : (each : List Scenario) (s : Scenario) → names_of (each ++ s ∷ []) ≡ names_of each ++ s.name ∷ []
 names_push [] s = refl
 names_push (x ∷ each) s = ap (λ (l : List (List ℕ)). x.name ∷ l) (names_push each s)
 
-no_rows_push : (each : List Scenario) (s : Scenario) → s.own.items ≡ [] → ((i : ℕ) → rows_at each i ≡ []) → (i : ℕ) → rows_at (each ++ s ∷ []) i ≡ []
+pub no_rows_push : (each : List Scenario) (s : Scenario) → s.own.items ≡ [] → ((i : ℕ) → rows_at each i ≡ []) → (i : ℕ) → rows_at (each ++ s ∷ []) i ≡ []
 no_rows_push [] s none all zero = none
 no_rows_push [] s none all (suc i) = refl
 no_rows_push (x ∷ each) s none all zero = all 0

@@ -8,6 +8,7 @@ pub mod SpotFacts
 pub mod FillFacts
 pub mod MapFacts
 pub mod AnswerFacts
+pub mod RisingFacts
 pub mod TableLawFacts
 pub mod WorthFacts
 pub mod SumFacts

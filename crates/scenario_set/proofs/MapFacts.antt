@@ -28,7 +28,7 @@ rows_to rows q v h =
     let read : get_or (rows_held rows) h.0 (q, v) ≡ row_held (get_or rows h.0 (row_for q v)) = get_or-map row_held rows h.0 (row_for q v) (q, v) within in
     (h.0, within, ap row_back (sym read ∙ h.2))
 
-rows_from : (rows : List SetRow) (q : Place) (v : Value) → Contains rows (row_for q v) → Contains (rows_held rows) (q, v)
+pub rows_from : (rows : List SetRow) (q : Place) (v : Value) → Contains rows (row_for q v) → Contains (rows_held rows) (q, v)
 rows_from rows q v h = (
   h.0,
   omega (arith, h.1, length-map rows row_held),
@@ -37,7 +37,7 @@ rows_from rows q v h = (
 
 -- ---- the scenarios
 
-names_maps : (common : List SetRow) (each : List Scenario) → map (λ (s : NamedMap). s.name) (maps_of (rows_held common) each) ≡ names_of each
+pub names_maps : (common : List SetRow) (each : List Scenario) → map (λ (s : NamedMap). s.name) (maps_of (rows_held common) each) ≡ names_of each
 names_maps common [] = refl
 names_maps common (s ∷ each) = ap (λ (l : Names). s.name ∷ l) (names_maps common each)
 
@@ -46,30 +46,43 @@ rows_of [] i z e = absurd (cc)
 rows_of (s ∷ each) zero z e = let same : s ≡ z = cc in ap (λ (x : Scenario). x.own.items) same
 rows_of (s ∷ each) (suc i) z e = rows_of each i z e
 
-module _ (kept : Rows) (common : List SetRow) (each : List Scenario) (fills : Fills kept common each) (i : ℕ) (s : NamedMap) where
+module _ (common : List SetRow) (each : List Scenario) (i : ℕ) (s : NamedMap) where
   held_by : (o : Option Scenario) → slice_get each i ≡ o → option_map (map_of (rows_held common)) o ≡ Some s → (q : Place) (v : Value)
-      → Contains s.map (q, v) ↔ (IsFirst kept (Of i) (row_for q v) ⊎ IsFirst kept Each (row_for q v))
+      → Contains s.map (q, v) ↔ (Contains (rows_at each i) (row_for q v) ⊎ Contains common (row_for q v))
   held_by None at e q v = absurd (cc)
   held_by (Some z) at e q v =
       let same : map_of (rows_held common) z ≡ s = cc in
       let is : rows_held z.own.items ++ rows_held common ≡ s.map = ap (λ (x : NamedMap). x.map) same in
-      let rows : rows_at each i ≡ z.own.items = rows_of each i z at in
-      let own = fills.own_is i (row_for q v) in
-      let each_is = fills.common_is (row_for q v) in (
+      let rows : rows_at each i ≡ z.own.items = rows_of each i z at in (
         (λ h. elim (Contains-append_cases (rows_held z.own.items) (rows_held common) (q, v) (subst (λ (x : Environment). Contains x (q, v)) (sym is) h)) [
-          | inl one ↦ inl (own.0 (subst (λ (l : List SetRow). Contains l (row_for q v)) (sym rows) (rows_to z.own.items q v one)))
-          | inr all ↦ inr (each_is.0 (rows_to common q v all))
+          | inl one ↦ inl (subst (λ (l : List SetRow). Contains l (row_for q v)) (sym rows) (rows_to z.own.items q v one))
+          | inr all ↦ inr (rows_to common q v all)
         ]),
         (λ h. subst (λ (x : Environment). Contains x (q, v)) is (elim h [
-          | inl one ↦ Contains-append_left (rows_held z.own.items) (rows_held common) (q, v) (rows_from z.own.items q v (subst (λ (l : List SetRow). Contains l (row_for q v)) rows (own.1 one)))
-          | inr all ↦ Contains-append_right (rows_held z.own.items) (rows_held common) (q, v) (rows_from common q v (each_is.1 all))
+          | inl one ↦ Contains-append_left (rows_held z.own.items) (rows_held common) (q, v) (rows_from z.own.items q v (subst (λ (l : List SetRow). Contains l (row_for q v)) rows one))
+          | inr all ↦ Contains-append_right (rows_held z.own.items) (rows_held common) (q, v) (rows_from common q v all)
         ])),
       )
+
+  -- what the map of a scenario has is what its rows and those of all say
+  pub map_holds : slice_get (maps_of (rows_held common) each) i ≡ Some s → (q : Place) (v : Value)
+      → Contains s.map (q, v) ↔ (Contains (rows_at each i) (row_for q v) ⊎ Contains common (row_for q v))
+  map_holds e = held_by (slice_get each i) refl (sym (slice_get-map (map_of (rows_held common)) each i) ∙ e)
+
+settled_holds : (kept : Rows) (common : List SetRow) (each : List Scenario) → Fills kept common each → (i : ℕ) (s : NamedMap) → slice_get (maps_of (rows_held common) each) i ≡ Some s → (q : Place) (v : Value)
+    → Contains s.map (q, v) ↔ (IsFirst kept (Of i) (row_for q v) ⊎ IsFirst kept Each (row_for q v))
+settled_holds kept common each fills i s e q v =
+    let h = map_holds common each i s e q v in
+    let own = fills.own_is i (row_for q v) in
+    let all = fills.common_is (row_for q v) in (
+      (λ x. elim (h.0 x) [ inl one ↦ inl (own.0 one) | inr more ↦ inr (all.0 more) ]),
+      (λ x. h.1 (elim x [ inl one ↦ inl (own.1 one) | inr more ↦ inr (all.1 more) ])),
+    )
 
 pub settles_maps : (names : Names) (kept : Rows) (common : List SetRow) (each : List Scenario) → names_of each ≡ names → Fills kept common each → Settles names kept (maps_of (rows_held common) each)
 settles_maps names kept common each named fills = record {
   names_are = names_maps common each ∙ named;
-  holds = λ i s e. held_by kept common each fills i s (slice_get each i) refl (sym (slice_get-map (map_of (rows_held common)) each i) ∙ e);
+  holds = settled_holds kept common each fills;
 }
 
 -- ---- what is found in a map

@@ -97,10 +97,18 @@ pub record AreNamed (d : Declarations) (table : Table) (m : ℕ) (names : Names)
       (i j n k : ℕ) (a b : List ℕ) → i < j → slice_get names i ≡ Some a → slice_get names j ≡ Some b
       → IsFirstOf d table a n → IsFirstOf d table b k → n < k
 
+-- of the first m records the first is the header, and none breaks a rule by itself
+abbrev pub AreSound : Declarations → Table → ℕ → Type 0
+AreSound d table m = (n : ℕ) (k : RowKind) → n ≤ m → ¬ (LacksHeader table n k ⊎ BreaksAlone d table n k)
+
+-- none of the first m records contradicts an earlier one
+abbrev pub Agree : Declarations → Table → ℕ → Type 0
+Agree d table m = (n e : ℕ) → n ≤ m → ¬ (Contradicts d table n e)
+
 -- of the first m records none breaks a rule
 pub record Collects (d : Declarations) (table : Table) (m : ℕ) (names : Names) (kept : Kept) : Type 0 where
-  pub alone : (n : ℕ) (k : RowKind) → n ≤ m → ¬ (LacksHeader table n k ⊎ BreaksAlone d table n k)
-  pub agree : (n e : ℕ) → n ≤ m → ¬ (Contradicts d table n e)
+  pub alone : AreSound d table m
+  pub agree : Agree d table m
   pub are_named : AreNamed d table m names
   pub are_seen : AreSeen d table m names kept
 
