@@ -1,6 +1,7 @@
 """The rows of crates/run_rows, taken line by line as that program does, by whatever runs words over files.
 
 Rows in which a read or a write fails, or the sink is small, are left out, and so is what the runner says that it cannot run.
+Calls of libraries are no runs, and are passed over.
 """
 from __future__ import annotations
 
@@ -120,8 +121,10 @@ class Rows:
             self.begin_text(self.texts, rest, self.row.written)
         elif word == "fronts":
             self.run_fronts(line, rest)
-        else:
+        elif re.match(r"(run|again)(\||$)", line):
             self.run_row(line)
+        else:
+            self.pass_over(line)
 
     def begin_text(self, texts: Files, name: str, text: bytes) -> None:
         texts[name] = text
@@ -145,6 +148,11 @@ class Rows:
         self.left_out += 1
         self.judge(self.next(1)[0].startswith(f"{line}: "), f"the rows do not go on with {line}")
         self.row.written = b"".join(piece_of(it[2:]) + (b"\n" if it[0] == "|" else b"") for it in self.next_output())
+
+    def pass_over(self, line: str) -> None:
+        """The call of a library: its line, and what it answers."""
+        self.goes_on_with(line)
+        self.next_output()
 
     def run_row(self, line: str) -> None:
         """`run|WORD|WORD`, or `again|WORD|WORD`, which writes behind what the run before it has written."""

@@ -2,15 +2,14 @@
 
 ghost use Rattle.std.specs.Prelude.{◌<◌, length};
 
-use crate::call_err::{Answer, CallErr};
 use crate::files::code_of;
-use crate::saying::{say, say_same};
+use crate::saying::{Answer, say, say_same};
 use crate::words::{count, first_word};
 use fixing_files::Fixings;
 use payoff_compile::cut;
 use payoff_eval::value_scratch;
 use payoff_terms::{Code, CodeFile};
-use row_language::Rows;
+use row_language::{RowErr, Rows};
 use scenario_set::{Scenarios, read_scenarios};
 use std::alloc::Global;
 use term_model::{Decls, MOST_COUNTED};
@@ -53,20 +52,20 @@ fn say_scenario(
     out: &mut String,
 ) -> Answer {
     if place >= set.count() {
-        return Err(CallErr::Range);
+        return Err(RowErr::Range);
     }
     let fixings = set.fixings(alloc, place)?;
     say_days(decls, &fixings, out)
 }
 
 // The scenarios of a table.
-fn scenarios_of(alloc: Global, text: &[u8], decls: &Decls) -> Result<Scenarios, CallErr> {
+fn scenarios_of(alloc: Global, text: &[u8], decls: &Decls) -> Result<Scenarios, RowErr> {
     if text.len() > MOST_COUNTED as usize {
-        return Err(CallErr::Range);
+        return Err(RowErr::Range);
     }
     match read_scenarios(alloc, text, decls) {
         Ok(set) => Ok(set),
-        Err(_) => Err(CallErr::Text),
+        Err(_) => Err(RowErr::Text),
     }
 }
 

@@ -9,9 +9,8 @@ ghost use Rattle.term_model.specs.Terms.{contract};
 ghost use Rattle.term_model.specs.WellFormed.{HasOnlyNumbers, IsClosed};
 ghost use Rattle.specialise.specs.Specialised.{StandsAlone};
 
-use crate::call_err::Answer;
 use crate::files::{accept, code_of, contract_at, portfolio_of, try_form, wanted_of};
-use crate::saying::{say, say_same};
+use crate::saying::{Answer, say, say_same};
 use crate::words::ContractCall;
 use contract_check::check;
 use decimal::NoMemory;

@@ -8,7 +8,7 @@ ghost use Rattle.term_model.specs.Sizes.{height_of_contract};
 ghost use Rattle.term_model.specs.Terms.{contract};
 ghost use Rattle.specialise.specs.Specialised.{StandsAlone};
 
-use crate::call_err::Answer;
+use crate::saying::Answer;
 use crate::evaluating::evaluated;
 use crate::files::{accept, contract_at, fixings_of, portfolio_of, wanted_of};
 use crate::residuals::{advanced, carried, specialised, specialised_first, stepped};

@@ -11,12 +11,12 @@ ghost use Rattle.term_model.specs.WellFormed.{IsClosed};
 ghost use Rattle.term_core.specs.SharedTerms.{shared, StoresOffsets};
 ghost use Rattle.specialise.specs.Specialised.{IsNear, StandsAlone};
 
-use crate::call_err::{Answer, CallErr};
-use crate::saying::{say, say_same};
+use crate::saying::{Answer, say, say_same};
 use advance_step::{Advanced, advance, carry, step};
 use decimal::NoMemory;
 use fixing_files::Fixings;
 use flow_eval::FlowErr;
+use row_language::RowErr;
 use simplify::is_nothing;
 use specialise::laws::parts_may_be_specialised;
 use specialise::{Frame, specialise_contr, specialise_expr};
@@ -45,11 +45,11 @@ pub fn specialised(
 }
 
 // The expression that a contract binds or tests.
-fn first_of(c: &Contr) -> Result<&Expr, CallErr> {
+fn first_of(c: &Contr) -> Result<&Expr, RowErr> {
     match c {
         Contr::Let { bound, .. } => Ok(bound),
         Contr::Within { test, .. } => Ok(test),
-        _ => Err(CallErr::Text),
+        _ => Err(RowErr::Text),
     }
 }
 
@@ -60,7 +60,7 @@ fn first_on(
     c: &Contr,
     fixings: &Fixings,
     frame: Frame,
-) -> Result<Expr, CallErr>
+) -> Result<Expr, RowErr>
     requires accepted { IsAccepted (declarations decls.now) (contract c.now) }
     requires closed { IsClosed (declarations decls.now) (contract c.now) }
     requires admitted { IsAdmitted (declarations decls.now) fixings.now }
@@ -70,7 +70,7 @@ fn first_on(
     match c {
         Contr::Let { bound, .. } => Ok(specialise_expr(alloc, decls, bound, fixings, frame)?),
         Contr::Within { test, .. } => Ok(specialise_expr(alloc, decls, test, fixings, frame)?),
-        _ => Err(CallErr::Text),
+        _ => Err(RowErr::Text),
     }
 }
 
@@ -139,7 +139,7 @@ pub fn advanced(
     requires admitted { IsAdmitted (declarations decls.now) fixings.now }
 {
     if days > LAST_START || decls.start + days > LAST_START {
-        return Err(CallErr::Range);
+        return Err(RowErr::Range);
     }
     say_advanced(advance(alloc, decls, c, fixings, days), wanted, out)
 }

@@ -1,7 +1,10 @@
 //! Answers as lines.
 
-use crate::call_err::Answer;
+use row_language::RowErr;
 use std::fmt::Debug;
+
+/// Whether what a call answers was appended.
+pub type Answer = Result<(), RowErr>;
 
 /// Appends what a call answers.
 pub fn say<T: Debug>(answer: &T, out: &mut String) -> Answer {

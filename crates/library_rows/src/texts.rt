@@ -5,13 +5,12 @@ ghost use Rattle.term_model.specs.Limits.{most_counted};
 ghost use Rattle.term_model.specs.Books.{book};
 ghost use Rattle.contract_grammar.specs.Writable.{IsWritableTerm};
 
-use crate::call_err::{Answer, CallErr};
 use crate::files::portfolio_of;
-use crate::saying::say;
+use crate::saying::{Answer, say};
 use contract_parse::parse_portfolio;
 use contract_print::laws::texts_are_writable;
 use contract_print::{print_decls, print_portfolio};
-use row_language::push_output;
+use row_language::{RowErr, push_output};
 use std::alloc::Global;
 use term_model::{Decls, MOST_COUNTED, Portfolio};
 
@@ -41,7 +40,7 @@ fn say_printed(alloc: Global, text: &[u8], out: &mut String) -> Answer
 /// `print_portfolio FILE`: the canonical text of a portfolio, or its first fault.
 pub fn printed(alloc: Global, text: &[u8], out: &mut String) -> Answer {
     if text.len() > MOST_COUNTED as usize {
-        return Err(CallErr::Range);
+        return Err(RowErr::Range);
     }
     say_printed(alloc, text, out)
 }

@@ -4,11 +4,11 @@ ghost use Rattle.std.specs.Prelude.{◌≡◌, ◌≤◌, length, true};
 ghost use Rattle.term_model.specs.Limits.{is_a_version, most_counted};
 ghost use Rattle.contract_parse.specs.Cursors.{Fits};
 
-use crate::call_err::{Answer, CallErr};
-use crate::saying::say;
+use crate::saying::{Answer, say};
 use crate::texts::say_decls;
 use crate::words::{count, first_word, version};
 use contract_parse::{Cursor, next_token, parse_decls, start_text};
+use row_language::RowErr;
 use std::alloc::Global;
 use term_model::MOST_COUNTED;
 
@@ -77,7 +77,7 @@ fn say_all(alloc: Global, text: &[u8], version: u8, tokens: (u32, u32), out: &mu
 }
 
 // How many tokens stand before the declarations, and behind.
-fn tokens_of(words: &str) -> Result<(u32, u32), CallErr> {
+fn tokens_of(words: &str) -> Result<(u32, u32), RowErr> {
     let (before, behind) = first_word(words);
     Ok((count(before)?, count(behind)?))
 }
@@ -86,7 +86,7 @@ fn tokens_of(words: &str) -> Result<(u32, u32), CallErr> {
 /// them, and so many tokens behind those.
 pub fn read_decls(alloc: Global, text: &[u8], words: &str, out: &mut String) -> Answer {
     if text.len() > MOST_COUNTED as usize {
-        return Err(CallErr::Range);
+        return Err(RowErr::Range);
     }
     let (number, words) = first_word(words);
     say_all(alloc, text, version(number)?, tokens_of(words)?, out)

@@ -3,7 +3,6 @@
 ghost use Rattle.std.specs.Prelude.{◌≡◌, ◌≤◌, ◌≤ℤ◌, ◌^◌, IfOk, pos, true, unsigned_abs};
 ghost use Rattle.term_model.specs.Limits.{is_a_version, last_start};
 
-use crate::call_err::CallErr;
 use row_language::{RowErr, number_of};
 use term_model::LAST_START;
 
@@ -43,7 +42,7 @@ pub enum Call {
 }
 
 // The call of a name, of those on a day.
-fn day_call(name: &str) -> Result<DayCall, CallErr> {
+fn day_call(name: &str) -> Result<DayCall, RowErr> {
     match name {
         "eval" => Ok(DayCall::Eval),
         "specialise_contr" => Ok(DayCall::SpecialiseContr),
@@ -52,12 +51,12 @@ fn day_call(name: &str) -> Result<DayCall, CallErr> {
         "step" => Ok(DayCall::Step),
         "carry" => Ok(DayCall::Carry),
         "advance" => Ok(DayCall::Advance),
-        _ => Err(CallErr::Call),
+        _ => Err(RowErr::NoCall),
     }
 }
 
 /// The call of a name.
-pub fn call_of(name: &str) -> Result<Call, CallErr> {
+pub fn call_of(name: &str) -> Result<Call, RowErr> {
     match name {
         "print_portfolio" => Ok(Call::PrintPortfolio),
         "print_decls" => Ok(Call::PrintDecls),
@@ -80,33 +79,33 @@ pub fn first_word(words: &str) -> (&str, &str) {
 }
 
 /// A count, or a place.
-pub fn count(word: &str) -> Result<u32, CallErr> {
+pub fn count(word: &str) -> Result<u32, RowErr> {
     match u32::try_from(number_of(word)?) {
         Ok(number) => Ok(number),
-        Err(_) => Err(CallErr::Row(RowErr::Number)),
+        Err(_) => Err(RowErr::Number),
     }
 }
 
 /// A day on which a contract can stand.
-pub fn frame(word: &str) -> Result<i64, CallErr>
+pub fn frame(word: &str) -> Result<i64, RowErr>
     ensures first { IfOk result (λ day. pos 0 ≤ℤ day) }
     ensures last { IfOk result (λ day. day ≤ℤ pos last_start) }
     ensures near { IfOk result (λ day. unsigned_abs day ≤ 10 ^ 12) }
 {
     let day = count(word)?;
     if day > LAST_START {
-        return Err(CallErr::Range);
+        return Err(RowErr::Range);
     }
     Ok(day as i64)
 }
 
 /// A version of portfolios.
-pub fn version(word: &str) -> Result<u8, CallErr>
+pub fn version(word: &str) -> Result<u8, RowErr>
     ensures { IfOk result (λ version. is_a_version version ≡ true) }
 {
     match word {
         "1" => Ok(1),
         "2" => Ok(2),
-        _ => Err(CallErr::Range),
+        _ => Err(RowErr::Range),
     }
 }

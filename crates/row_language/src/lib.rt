@@ -1,11 +1,11 @@
 //! The language of the rows that tests are made of: lines that name texts and files and say what
-//! they contain, with lines of a program's own between them. `run_rows` and `library_rows` read it.
+//! they contain, with other lines between them: the runs of `run_rows`, the calls of `library_rows`.
 //!
 //! ```text
 //! match rows.take(line, &mut out)? {
 //!     Taken::Read => {} // a line of the language
 //!     Taken::Begun => {} // a new row
-//!     Taken::Other { word, rest } => {} // a line of the program
+//!     Taken::Other { word, rest } => {} // a run or a call
 //! }
 //! ```
 //!
@@ -29,7 +29,7 @@
 //! line, with `|` before a line and `+` before what comes after the last line feed.
 //!
 //! Promised: nothing to other crates.
-//! Only tested: all of it, by the rows of the two programs.
+//! Only tested: all of it, by the rows of `run_rows`.
 #![tactic(auto)]
 
 mod output;

@@ -34,6 +34,18 @@ pub enum RowErr {
     /// A sink that takes no byte.
     #[error("a write takes one byte at least")]
     Most,
+    /// A call of no known name.
+    #[error("no call has this name")]
+    NoCall,
+    /// A text that the call does not take.
+    #[error("a text is none that the call takes")]
+    Text,
+    /// A contract that is not accepted.
+    #[error("the contract is refused")]
+    Refused,
+    /// A number that the call does not take.
+    #[error("a number is out of the range of the call")]
+    Range,
     /// Out of memory.
     #[error("out of memory")]
     NoMemory,

@@ -1,8 +1,9 @@
 //! Runs of the commands as rows of data. The program reads rows from its standard input (`stdin`
 //! beside this folder), calls `contract_cli::run` for each over files and a sink in memory, and
-//! prints what each run has written, with its status. The gate compares that with `stdout`, byte
-//! for byte. To add a row, write its lines into `stdin`, and into `stdout` what they must print:
-//! from the written rules, and never from the program's own output.
+//! prints what each run has written, with its status. It makes the calls of `library_rows` too,
+//! whose rows stand behind those of runs. The gate compares that with `stdout`, byte for byte. To
+//! add a row, write its lines into `stdin`, and into `stdout` what they must print: from the written
+//! rules, and never from the program's own output.
 //!
 //! ```text
 //! == a loan pays today and after 90 days
@@ -33,6 +34,7 @@
 //! - `fronts FILE|WORD|WORD`: a run for each proper front of the file, of 0 bytes, 1 byte and so
 //!   on, of which only the statuses are printed
 //! - `keep NAME`: all that the sink holds after the last run becomes a text of this name
+//! - a call of a library, as the head of `library_rows` says
 //!
 //! A run prints its line with the number and the name of its status, and then what the sink holds.
 //! Any other line ends the program with status 1 and a message that has the line's number.

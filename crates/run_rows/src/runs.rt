@@ -2,6 +2,7 @@
 
 use crate::answer::{push_answer, push_statuses};
 use crate::desk::{Desk, Faults, Front};
+use library_rows::answer;
 use row_language::{RowErr, Rows, Taken};
 use std::alloc::Global;
 
@@ -54,14 +55,14 @@ impl<'a> Runs<'a> {
         }
     }
 
-    // `run`, `run|WORD|WORD` or `again|WORD|WORD`.
+    // `run`, `run|WORD|WORD` or `again|WORD|WORD`, or the call of a library.
     fn run(&mut self, line: &str, out: &mut String) -> Result<(), RowErr> {
         if let Some(words) = line.strip_prefix("again|") {
             return self.answer(line, Some(words), out);
         }
         let words = line.strip_prefix("run|");
         if words.is_none() && line != "run" {
-            return Err(RowErr::Form);
+            return answer(self.alloc, &self.rows, line, out);
         }
         self.desk = Some(self.faults.desk(self.alloc, self.rows.files(), None)?);
         self.answer(line, words, out)

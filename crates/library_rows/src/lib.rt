@@ -1,7 +1,7 @@
-//! Rows that make the public calls of the libraries that no command makes, or that a command makes
-//! on other data. The program reads rows from its standard input (`stdin` beside this folder) and
-//! prints what each call answers. The gate compares that with `stdout`, byte for byte. What a row
-//! must print comes from the written rules, and never from the program's own output.
+//! The public calls of the libraries that no command makes, or that a command makes on other data,
+//! as rows of data. `run_rows` reads rows from its standard input, and has `answer` answer each line
+//! that is such a call; the gate compares what it prints byte for byte. What a row must print comes
+//! from the written rules, and never from the program's own output.
 //!
 //! ```text
 //! == both parts pay nothing
@@ -46,14 +46,16 @@
 //! - `fixings|CODE|SCENARIOS|PLACE`: what is fixed in a scenario of a table, by its place, for each
 //!   label that the code declares
 //!
-//! Any other line ends the program with status 1 and a message that has the line's number.
+//! Any other line is an error, which the program says with the line's number.
+//!
+//! It is a library, and no program of its own: a program links all that it stands on, and looks at
+//! it once for its proof and once for each compiler.
 //!
 //! Promised: nothing to other crates.
-//! Only tested: all that `stdin` tries.
+//! Only tested: all that the rows try.
 #![tactic(auto)]
 
-mod call_err;
-mod calls;
+mod answering;
 mod codes;
 mod contracts;
 mod days;
@@ -65,32 +67,4 @@ mod texts;
 mod tokens;
 mod words;
 
-use anyhow::{Context, Result};
-use call_err::Answer;
-use calls::answer;
-use row_language::{Rows, Taken};
-use std::alloc::Global;
-use std::io;
-
-// Does what the next line says, and appends what is to be printed.
-fn take<'a>(alloc: Global, rows: &mut Rows<'a>, line: &'a str, out: &mut String) -> Answer {
-    match rows.take(line, out)? {
-        Taken::Read | Taken::Begun => Ok(()),
-        Taken::Other { .. } => answer(alloc, rows, line, out),
-    }
-}
-
-fn main(rt: HostRuntime) -> Result<()> {
-    let alloc = rt.alloc();
-    let text = io::read_to_string(alloc, rt.reader())?;
-    let mut rows = Rows::new(alloc);
-    for (place, line) in text.as_str().split('\n').enumerate() {
-        let mut out = String::new(alloc);
-        take(alloc, &mut rows, line, &mut out).context(format_args!(
-            "line {}",
-            place.saturating_add(1)
-        ))?;
-        rt.print(out)?;
-    }
-    Ok(())
-}
+pub use answering::answer;

@@ -1,9 +1,9 @@
 //! The calls.
 
-use crate::call_err::Answer;
+use crate::saying::Answer;
 use crate::words::{Call, call_of, first_word};
 use crate::{codes, contracts, days, texts, tokens};
-use row_language::Rows;
+use row_language::{RowErr, Rows};
 use std::alloc::Global;
 
 // Answers a call on a text, and further words.
@@ -28,8 +28,14 @@ fn answer_call(
     }
 }
 
-/// Answers the call of a line: its name, the name of a file, and further words, with a bar between.
-pub fn answer(alloc: Global, rows: &Rows<'_>, line: &str, out: &mut String) -> Answer {
+/// Answers the call of a line: its name, the name of a file of the row, and further words, with a
+/// bar between.
+pub fn answer(
+    alloc: Global,
+    rows: &Rows<'_>,
+    line: &str,
+    out: &mut String,
+) -> Result<(), RowErr> {
     let (name, words) = first_word(line);
     let (file, words) = first_word(words);
     write!(out, "{line}\n")?;
