@@ -30,12 +30,7 @@ fn answer_call(
 
 /// Answers the call of a line: its name, the name of a file of the row, and further words, with a
 /// bar between.
-pub fn answer(
-    alloc: Global,
-    rows: &Rows<'_>,
-    line: &str,
-    out: &mut String,
-) -> Result<(), RowErr> {
+pub fn answer(alloc: Global, rows: &Rows<'_>, line: &str, out: &mut String) -> Result<(), RowErr> {
     let (name, words) = first_word(line);
     let (file, words) = first_word(words);
     write!(out, "{line}\n")?;

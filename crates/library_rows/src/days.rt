@@ -8,10 +8,10 @@ ghost use Rattle.term_model.specs.Sizes.{height_of_contract};
 ghost use Rattle.term_model.specs.Terms.{contract};
 ghost use Rattle.specialise.specs.Specialised.{StandsAlone};
 
-use crate::saying::Answer;
 use crate::evaluating::evaluated;
 use crate::files::{accept, contract_at, fixings_of, portfolio_of, wanted_of};
 use crate::residuals::{advanced, carried, specialised, specialised_first, stepped};
+use crate::saying::Answer;
 use crate::words::{DayCall, first_word, frame};
 use fixing_files::Fixings;
 use row_language::Rows;
