@@ -1,7 +1,7 @@
 //! The public calls of the libraries that no command makes, or that a command makes on other data,
-//! as rows of data. `run_rows` reads rows from its standard input, and has `answer` answer each line
-//! that is such a call; the gate compares what it prints byte for byte. What a row must print comes
-//! from the written rules, and never from the program's own output.
+//! as rows of data. The program `run_rows` reads rows from its standard input, and `make_call`
+//! answers each line that is such a call; the gate compares what is printed byte for byte. What a row
+//! must print comes from the written rules, and never from the program's own output.
 //!
 //! ```text
 //! == both parts pay nothing
@@ -55,7 +55,7 @@
 //! Only tested: all that the rows try.
 #![tactic(auto)]
 
-mod answering;
+mod calls;
 mod codes;
 mod contracts;
 mod days;
@@ -67,4 +67,4 @@ mod texts;
 mod tokens;
 mod words;
 
-pub use answering::answer;
+pub use calls::make_call;

@@ -2,7 +2,7 @@
 
 use crate::answer::{push_answer, push_statuses};
 use crate::desk::{Desk, Faults, Front};
-use library_rows::answer;
+use library_rows::make_call;
 use row_language::{RowErr, Rows, Taken};
 use std::alloc::Global;
 
@@ -62,7 +62,7 @@ impl<'a> Runs<'a> {
         }
         let words = line.strip_prefix("run|");
         if words.is_none() && line != "run" {
-            return answer(self.alloc, &self.rows, line, out);
+            return make_call(self.alloc, &self.rows, line, out);
         }
         self.desk = Some(self.faults.desk(self.alloc, self.rows.files(), None)?);
         self.answer(line, words, out)

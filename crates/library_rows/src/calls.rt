@@ -28,9 +28,14 @@ fn answer_call(
     }
 }
 
-/// Answers the call of a line: its name, the name of a file of the row, and further words, with a
-/// bar between.
-pub fn answer(alloc: Global, rows: &Rows<'_>, line: &str, out: &mut String) -> Result<(), RowErr> {
+/// Makes the call of a line, and appends what it answers. The line is its name, the name of a file of
+/// the row, and further words, with a bar between.
+pub fn make_call(
+    alloc: Global,
+    rows: &Rows<'_>,
+    line: &str,
+    out: &mut String,
+) -> Result<(), RowErr> {
     let (name, words) = first_word(line);
     let (file, words) = first_word(words);
     write!(out, "{line}\n")?;
