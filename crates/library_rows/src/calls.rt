@@ -28,8 +28,8 @@ fn answer_call(
     }
 }
 
-/// Makes the call of a line, and appends what it answers. The line is its name, the name of a file of
-/// the row, and further words, with a bar between.
+/// Makes the call of a line, and appends what it answers. The line is its name, the name of a file
+/// of the row, and further words, with a bar between.
 pub fn make_call(
     alloc: Global,
     rows: &Rows<'_>,

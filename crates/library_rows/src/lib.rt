@@ -1,7 +1,7 @@
 //! The public calls of the libraries that no command makes, or that a command makes on other data,
 //! as rows of data. The program `run_rows` reads rows from its standard input, and `make_call`
-//! answers each line that is such a call; the gate compares what is printed byte for byte. What a row
-//! must print comes from the written rules, and never from the program's own output.
+//! answers each line that is such a call. The gate compares what is printed byte for byte. What a
+//! row must print comes from the written rules, and never from the program's own output.
 //!
 //! ```text
 //! == both parts pay nothing

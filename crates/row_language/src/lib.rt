@@ -1,5 +1,5 @@
 //! The language of the rows that tests are made of: lines that name texts and files and say what
-//! they contain, with other lines between them: the runs of `run_rows`, the calls of `library_rows`.
+//! they contain. Between them are the runs of `run_rows` and the calls of `library_rows`.
 //!
 //! ```text
 //! match rows.take(line, &mut out)? {

@@ -2,8 +2,8 @@
 //! beside this folder), calls `contract_cli::run` for each over files and a sink in memory, and
 //! prints what each run has written, with its status. It makes the calls of `library_rows` too,
 //! whose rows stand behind those of runs. The gate compares that with `stdout`, byte for byte. To
-//! add a row, write its lines into `stdin`, and into `stdout` what they must print: from the written
-//! rules, and never from the program's own output.
+//! add a row, write its lines into `stdin`, and into `stdout` what they must print: from the rules
+//! that are written, and never from the program's own output.
 //!
 //! ```text
 //! == a loan pays today and after 90 days
