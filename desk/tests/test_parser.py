@@ -4,6 +4,7 @@ stand at its place.
 
 from __future__ import annotations
 
+import os
 import random
 import re
 import tempfile
@@ -21,6 +22,9 @@ from tilugba.texts.reading import Memory, Reading
 from tilugba.texts.tokens import Place
 
 EDITS = 3_000
+# A folder in memory, if there is one: some file systems take a while for each file that is cut, and
+# here there are some 300,000.
+IN_MEMORY = "/dev/shm" if os.access("/dev/shm", os.W_OK) else None
 KINDS = {"none", "syntax", "number", "date", "deep", "range", "twice", "unknown", "utf8"}
 
 
@@ -74,7 +78,7 @@ def bad_origins() -> list[tuple[Example, bytes]]:
 
 def compare_some(number: int, texts: list[bytes]) -> list[tuple[str, str]]:
     """Compares the edits of an example, which often have the same before the fault."""
-    with tempfile.TemporaryDirectory() as folder:
+    with tempfile.TemporaryDirectory(dir=IN_MEMORY) as folder:
         judge = Judge(Path(folder))
         return [compared(text, examples()[number].grammar, judge) for text in texts]
 
