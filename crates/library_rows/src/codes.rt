@@ -14,25 +14,35 @@ use scenario_set::{Scenarios, read_scenarios};
 use std::alloc::Global;
 use term_model::{Decls, MOST_COUNTED};
 
-// Appends whether the cut of code is that of a file.
-fn say_cut(alloc: Global, code: Code, wanted: &[u8], out: &mut String) -> Answer {
-    let rest = cut(alloc, code)?;
+// The cut of the code of a file.
+fn cut_of(alloc: Global, text: &[u8]) -> Result<Code, RowErr> {
+    let CodeFile { code, .. } = code_of(alloc, text)?;
+    Ok(cut(alloc, code)?)
+}
+
+// Appends whether code is that of a file.
+fn say_code(alloc: Global, code: &Code, wanted: &[u8], out: &mut String) -> Answer {
     let file = code_of(alloc, wanted)?;
-    say_same(rest == file.code, out)
+    say_same(*code == file.code, out)
 }
 
 /// `cut CODE CUT`: whether the cut of the code of a file is the code of another.
 pub fn is_cut(alloc: Global, text: &[u8], wanted: &[u8], out: &mut String) -> Answer {
-    let CodeFile { code, .. } = code_of(alloc, text)?;
-    say_cut(alloc, code, wanted, out)
+    let code = cut_of(alloc, text)?;
+    say_code(alloc, &code, wanted, out)
+}
+
+// Appends that there is room for the names of a code file.
+fn say_room(alloc: Global, file: &CodeFile, out: &mut String) -> Answer {
+    value_scratch(alloc, file)?;
+    out.push_str("| room\n")?;
+    Ok(())
 }
 
 /// `value_scratch CODE`: that there is room for the names of a code file.
 pub fn has_room(alloc: Global, text: &[u8], out: &mut String) -> Answer {
     let file = code_of(alloc, text)?;
-    let _room = value_scratch(alloc, &file)?;
-    out.push_str("| room\n")?;
-    Ok(())
+    say_room(alloc, &file, out)
 }
 
 // Appends the fixed days of each label.
@@ -70,7 +80,16 @@ fn scenarios_of(alloc: Global, text: &[u8], decls: &Decls) -> Result<Scenarios, 
 }
 
 // Appends what is fixed in a scenario of a table.
-fn say_fixed(alloc: Global, decls: &Decls, table: &[u8], place: u32, out: &mut String) -> Answer {
+fn say_fixed(
+    alloc: Global,
+    decls: &Decls,
+    rows: &Rows<'_>,
+    words: &str,
+    out: &mut String,
+) -> Answer {
+    let (table, place) = first_word(words);
+    let table = rows.file(table)?;
+    let place = count(place)?;
     let set = scenarios_of(alloc, table, decls)?;
     say_scenario(alloc, decls, &set, place, out)
 }
@@ -78,7 +97,6 @@ fn say_fixed(alloc: Global, decls: &Decls, table: &[u8], place: u32, out: &mut S
 /// `fixings CODE TABLE SCENARIO`: what is fixed in a scenario, by its place, of each label of a
 /// code file.
 pub fn fixed(alloc: Global, rows: &Rows<'_>, text: &[u8], words: &str, out: &mut String) -> Answer {
-    let (table, place) = first_word(words);
     let file = code_of(alloc, text)?;
-    say_fixed(alloc, &file.decls, rows.file(table)?, count(place)?, out)
+    say_fixed(alloc, &file.decls, rows, words, out)
 }

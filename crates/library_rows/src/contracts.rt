@@ -115,8 +115,8 @@ fn say_compiled_as(
     wanted: &[u8],
     out: &mut String,
 ) -> Answer {
-    let file = code_of(alloc, wanted)?;
     let c = contract_at(portfolio, 0)?;
+    let file = code_of(alloc, wanted)?;
     say_compiled(alloc, &portfolio.decls, c, &file.code, out)
 }
 

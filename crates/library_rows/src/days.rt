@@ -83,11 +83,12 @@ fn answer_with(
     alloc: Global,
     call: DayCall,
     portfolio: &Portfolio,
-    table: &[u8],
-    day: &str,
+    rows: &Rows<'_>,
+    words: &str,
     out: &mut String,
 ) -> Answer {
-    let fixings = fixings_of(alloc, table, &portfolio.decls)?;
+    let (table, day) = first_word(words);
+    let fixings = fixings_of(alloc, rows.file(table)?, &portfolio.decls)?;
     answer_over(alloc, call, portfolio, &fixings, day, out)
 }
 
@@ -100,7 +101,6 @@ pub fn answer_day(
     words: &str,
     out: &mut String,
 ) -> Answer {
-    let (table, day) = first_word(words);
     let portfolio = portfolio_of(alloc, text)?;
-    answer_with(alloc, call, &portfolio, rows.file(table)?, day, out)
+    answer_with(alloc, call, &portfolio, rows, words, out)
 }

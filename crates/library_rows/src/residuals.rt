@@ -89,8 +89,9 @@ pub fn specialised_first(
     requires admitted { IsAdmitted (declarations decls.now) fixings.now }
     requires day { IsNear frame }
 {
+    let wanted = first_of(wanted)?;
     let special = first_on(alloc, decls, c, fixings, frame)?;
-    say_same(special == *first_of(wanted)?, out)
+    say_same(special == *wanted, out)
 }
 
 // Appends what is due, and whether what is left is what is wanted.
@@ -154,6 +155,27 @@ fn shared_parts(alloc: Global, _decls: &Decls, c: &Contr) -> Result<Rc<SharedCon
     Ok(s)
 }
 
+// Appends whether nothing is left of a contract on the next day, or what is missing.
+fn say_carried(
+    alloc: Global,
+    decls: &Decls,
+    parts: &Rc<SharedContr>,
+    fixings: &Fixings,
+    day: i64,
+    out: &mut String,
+) -> Answer
+    requires accepted { IsAccepted (declarations decls.now) (shared parts.now.value) }
+    requires offsets { StoresOffsets parts.now.value }
+    requires admitted { IsAdmitted (declarations decls.now) fixings.now }
+    requires first { pos 0 ≤ℤ day }
+    requires last { day ≤ℤ pos last_start }
+{
+    match carry(alloc, decls, parts, fixings, day, 0) {
+        Ok(rest) => say(&is_nothing(&rest), out),
+        Err(error) => say(&error, out),
+    }
+}
+
 /// Appends whether nothing is left of it on the day after a day on which it stands, as parts that
 /// are shared with it; or what is missing. What is left the clause of `carry` says.
 pub fn carried(
@@ -170,8 +192,5 @@ pub fn carried(
     requires last { day ≤ℤ pos last_start }
 {
     let parts = shared_parts(alloc, decls, c)?;
-    match carry(alloc, decls, &parts, fixings, day, 0) {
-        Ok(rest) => say(&is_nothing(&rest), out),
-        Err(error) => say(&error, out),
-    }
+    say_carried(alloc, decls, &parts, fixings, day, out)
 }

@@ -14,12 +14,20 @@ use row_language::{RowErr, push_output};
 use std::alloc::Global;
 use term_model::{Decls, MOST_COUNTED, Portfolio};
 
-// Appends the canonical text of a portfolio.
-fn say_portfolio(alloc: Global, portfolio: &Portfolio, out: &mut String) -> Answer
+// The canonical text of a portfolio.
+fn text_of(alloc: Global, portfolio: &Portfolio) -> Result<Vec<u8>, RowErr>
     requires { All (λ entry. IsWritableTerm entry.1) (book portfolio.now).contracts }
 {
     let mut text = Vec::new(alloc);
     print_portfolio(alloc, &mut text, portfolio)?;
+    Ok(text)
+}
+
+// Appends it.
+fn say_portfolio(alloc: Global, portfolio: &Portfolio, out: &mut String) -> Answer
+    requires { All (λ entry. IsWritableTerm entry.1) (book portfolio.now).contracts }
+{
+    let text = text_of(alloc, portfolio)?;
     push_output(out, &text)?;
     Ok(())
 }
