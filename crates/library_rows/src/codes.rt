@@ -3,7 +3,7 @@
 ghost use Rattle.std.specs.Prelude.{◌<◌, length};
 
 use crate::files::code_of;
-use crate::saying::{Answer, say, say_same};
+use crate::saying::{Answer, say, say_same, say_words};
 use crate::words::{count, first_word};
 use fixing_files::Fixings;
 use payoff_compile::cut;
@@ -35,8 +35,7 @@ pub fn is_cut(alloc: Global, text: &[u8], wanted: &[u8], out: &mut String) -> An
 // Appends that there is room for the names of a code file.
 fn say_room(alloc: Global, file: &CodeFile, out: &mut String) -> Answer {
     value_scratch(alloc, file)?;
-    out.push_str("| room\n")?;
-    Ok(())
+    say_words("room", out)
 }
 
 /// `value_scratch CODE`: that there is room for the names of a code file.

@@ -12,12 +12,13 @@ pub fn say<T: Debug>(answer: &T, out: &mut String) -> Answer {
     Ok(())
 }
 
+/// Appends a line of words.
+pub fn say_words(words: &str, out: &mut String) -> Answer {
+    write!(out, "| {words}\n")?;
+    Ok(())
+}
+
 /// Appends whether a call has made what is wanted.
 pub fn say_same(is_same: bool, out: &mut String) -> Answer {
-    out.push_str(if is_same {
-        "| as wanted\n"
-    } else {
-        "| something else\n"
-    })?;
-    Ok(())
+    say_words(if is_same { "as wanted" } else { "something else" }, out)
 }
