@@ -20,5 +20,12 @@ pub fn say_words(words: &str, out: &mut String) -> Answer {
 
 /// Appends whether a call has made what is wanted.
 pub fn say_same(is_same: bool, out: &mut String) -> Answer {
-    say_words(if is_same { "as wanted" } else { "something else" }, out)
+    say_words(
+        if is_same {
+            "as wanted"
+        } else {
+            "something else"
+        },
+        out,
+    )
 }
