@@ -37,7 +37,7 @@ pub data Contract : Type 0 where
   Within : (test : Expression) (days : Days) (hit miss : Contract) → Contract
 
 abbrev pub expression : Expr → Expression
-expression (Lit' m s) = Lit m s
+expression (Lit' s m) = Lit m s
 expression (Yes' b) = Yes b
 expression (Var' k) = Var k
 expression (Obs' l t) = Obs l t
