@@ -1,8 +1,8 @@
 //! Fixings in two layers.
 
-ghost use Rattle.std.specs.Prelude.{◌≡◌, ◌++◌, [], IfOk, OnErr, OnOk};
+ghost use Rattle.std.specs.Prelude.{◌≡◌, ◌++◌, [], IfOk, IsTrue, OnErr, OnOk};
 ghost use Rattle.term_model.specs.Environments.{held};
-ghost use Rattle.fixing_files.specs.Layers.{HoldSame};
+ghost use Rattle.fixing_files.specs.Layers.{AreInOrder, ComesBehind, HoldSame, entries_held};
 ghost use Rattle.fixing_files.specs.Runs.{AddsUnlessHeld};
 ghost use Rattle.fixing_files.specs.Steps.{place_of};
 
@@ -10,15 +10,17 @@ use crate::fixings::Fixings;
 use crate::records::Place;
 use decimal::NoMemory;
 use std::alloc::Global;
+use std::cmp::Ordering;
 use std::collections::BTreeMap;
 use std::marker::Model;
 use term_model::Value;
 
 /// Fixings of a few places. They are kept in the order of places and not by labels, so they take
-/// memory for what is fixed alone.
+/// memory for what is fixed alone: places that come in this order in a list, the others in a map.
 #[derive(Drop)]
 pub struct FewFixings {
-    values: BTreeMap<Place, Value>,
+    risen: Vec<(Place, Value)>,
+    others: BTreeMap<Place, Value>,
 }
 
 impl Model for FewFixings {
@@ -26,9 +28,33 @@ impl Model for FewFixings {
 
     ghost Value = { Environment };
 
-    ghost use Rattle.fixing_files.specs.Layers.{entries_held};
+    ghost use Rattle.std.specs.Prelude.{◌++◌};
+    ghost use Rattle.fixing_files.specs.Layers.{AreInOrder, entries_held};
 
-    ghost view = { λ f. entries_held f.values };
+    ghost view = { λ f. entries_held f.risen.items ++ entries_held f.others.entries };
+
+    ghost invariant = { λ f. AreInOrder f.risen.items };
+}
+
+// The value at a place, of places in their order.
+fn value_at(risen: &[(Place, Value)], place: Place) -> Option<Value>
+    requires { AreInOrder risen.now }
+    ensures { result ≡ held (entries_held risen.now) (place_of place) }
+{
+    match risen.binary_search_by_key(&place, |entry| entry.0) {
+        Ok(at) => Some(risen[at].1),
+        Err(_) => None,
+    }
+}
+
+// Whether a place comes behind places in their order.
+fn is_behind(risen: &[(Place, Value)], place: Place) -> bool
+    ensures { IsTrue result → ComesBehind risen.now place }
+{
+    match risen.last() {
+        Some(last) => last.0.cmp(&place) == Ordering::Less,
+        None => true,
+    }
 }
 
 // Fixes a value at a place, unless the place is fixed already.
@@ -38,13 +64,31 @@ fn add_entry(fixings: &mut Fixings, place: Place, value: Value) -> Result<(), No
     fixings.add(place.label, place.day, value)
 }
 
+// What places in their order and the places of a map hold, in one map. Where both hold a place, the
+// first count.
+fn joined(
+    risen: &[(Place, Value)],
+    others: BTreeMap<Place, Value>,
+) -> Result<BTreeMap<Place, Value>, NoMemory>
+    requires { AreInOrder risen.now }
+    ensures { IfOk result (λ all. HoldSame (entries_held all.entries)
+        (entries_held risen.now ++ entries_held others.entries)) }
+{
+    let mut all = others;
+    for entry in risen {
+        all.insert(entry.0, entry.1)?;
+    }
+    Ok(all)
+}
+
 impl FewFixings {
     /// No fixings. It takes no memory.
     pub fn none(alloc: Global) -> FewFixings
         ensures { result ≡ [] }
     {
         FewFixings {
-            values: BTreeMap::new(alloc),
+            risen: Vec::new(alloc),
+            others: BTreeMap::new(alloc),
         }
     }
 
@@ -52,7 +96,10 @@ impl FewFixings {
     fn get(&self, place: Place) -> Option<Value>
         ensures { result ≡ held self.now (place_of place) }
     {
-        self.values.get(&place).copied()
+        match value_at(&self.risen, place) {
+            Some(value) => Some(value),
+            None => self.others.get(&place).copied(),
+        }
     }
 
     /// Fixes a value at a place, unless the place is fixed already.
@@ -60,10 +107,14 @@ impl FewFixings {
         ensures added { OnOk result (AddsUnlessHeld self.old self.new (place_of place) value) }
         ensures kept { OnErr result (self.new ≡ self.old) }
     {
-        if self.values.contains_key(&place) {
+        if self.others.contains_key(&place) {
             return Ok(());
         }
-        self.values.insert(place, value)?;
+        if is_behind(&self.risen, place) {
+            self.risen.push((place, value))?;
+        } else if value_at(&self.risen, place).is_none() {
+            self.others.insert(place, value)?;
+        }
         Ok(())
     }
 
@@ -71,8 +122,10 @@ impl FewFixings {
     pub fn by_labels(self, alloc: Global) -> Result<Fixings, NoMemory>
         ensures { IfOk result (λ fixings. HoldSame fixings self) }
     {
+        let others = self.others;
+        let all = joined(&self.risen, others)?;
         let mut fixings = Fixings::none(alloc);
-        for (place, value) in self.values {
+        for (place, value) in all {
             add_entry(&mut fixings, place, value)?;
         }
         Ok(fixings)
