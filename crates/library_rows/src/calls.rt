@@ -1,9 +1,8 @@
 //! The calls.
 
-use crate::saying::Answer;
-use crate::words::{Call, call_of, first_word};
+use crate::words::{Call, call_of};
 use crate::{codes, contracts, days, texts, tokens};
-use row_language::{RowErr, Rows};
+use row_language::{Answer, RowErr, Rows, first_word};
 use std::alloc::Global;
 
 // Answers a call on a text, and further words.

@@ -3,13 +3,11 @@
 ghost use Rattle.std.specs.Prelude.{◌<◌, length};
 
 use crate::files::code_of;
-use crate::saying::{Answer, say, say_same, say_words};
-use crate::words::{count, first_word};
 use fixing_files::Fixings;
 use payoff_compile::cut;
 use payoff_eval::value_scratch;
 use payoff_terms::{Code, CodeFile};
-use row_language::{RowErr, Rows};
+use row_language::{Answer, RowErr, Rows, count, first_word, say, say_same, say_words};
 use scenario_set::{Scenarios, read_scenarios};
 use std::alloc::Global;
 use term_model::{Decls, MOST_COUNTED};

@@ -10,7 +10,6 @@ ghost use Rattle.term_model.specs.WellFormed.{HasOnlyNumbers, IsClosed};
 ghost use Rattle.specialise.specs.Specialised.{StandsAlone};
 
 use crate::files::{accept, code_of, contract_at, portfolio_of, try_form, wanted_of};
-use crate::saying::{Answer, say, say_same};
 use crate::words::ContractCall;
 use contract_check::check;
 use decimal::NoMemory;
@@ -18,6 +17,7 @@ use exposure::rename;
 use interval_check::bounds;
 use payoff_compile::compile;
 use payoff_terms::Code;
+use row_language::{Answer, say, say_same};
 use scale_check::{scales, sizes};
 use simplify::simplify;
 use std::alloc::Global;

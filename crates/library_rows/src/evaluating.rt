@@ -8,9 +8,9 @@ ghost use Rattle.term_model.specs.Sizes.{height_of_contract};
 ghost use Rattle.expr_eval.specs.Evaluable.{MayEvaluateIn};
 ghost use Rattle.specialise.specs.Specialised.{StandsAlone};
 
-use crate::saying::{Answer, say};
 use expr_eval::{Held, Scratch, eval, kind_of, parts_may_be_evaluated};
 use fixing_files::Fixings;
+use row_language::{Answer, say};
 use std::alloc::Global;
 use term_model::{Contr, Decls, Missing, Value};
 

@@ -62,7 +62,6 @@ mod days;
 mod evaluating;
 mod files;
 mod residuals;
-mod saying;
 mod texts;
 mod tokens;
 mod words;

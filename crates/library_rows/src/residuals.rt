@@ -11,12 +11,11 @@ ghost use Rattle.term_model.specs.WellFormed.{IsClosed};
 ghost use Rattle.term_core.specs.SharedTerms.{shared, StoresOffsets};
 ghost use Rattle.specialise.specs.Specialised.{IsNear, StandsAlone};
 
-use crate::saying::{Answer, say, say_same};
 use advance_step::{Advanced, advance, carry, step};
 use decimal::NoMemory;
 use fixing_files::Fixings;
 use flow_eval::FlowErr;
-use row_language::RowErr;
+use row_language::{Answer, RowErr, say, say_same};
 use simplify::is_nothing;
 use specialise::laws::parts_may_be_specialised;
 use specialise::{Frame, specialise_contr, specialise_expr};

@@ -6,11 +6,10 @@ ghost use Rattle.term_model.specs.Books.{book};
 ghost use Rattle.contract_grammar.specs.Writable.{IsWritableTerm};
 
 use crate::files::portfolio_of;
-use crate::saying::{Answer, say};
 use contract_parse::parse_portfolio;
 use contract_print::laws::texts_are_writable;
 use contract_print::{print_decls, print_portfolio};
-use row_language::{RowErr, push_output};
+use row_language::{Answer, RowErr, push_output, say};
 use std::alloc::Global;
 use term_model::{Decls, MOST_COUNTED, Portfolio};
 

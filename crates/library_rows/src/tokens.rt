@@ -4,11 +4,10 @@ ghost use Rattle.std.specs.Prelude.{◌≡◌, ◌≤◌, length, true};
 ghost use Rattle.term_model.specs.Limits.{is_a_version, most_counted};
 ghost use Rattle.contract_parse.specs.Cursors.{Fits};
 
-use crate::saying::{Answer, say};
 use crate::texts::say_decls;
-use crate::words::{count, first_word, version};
+use crate::words::version;
 use contract_parse::{Cursor, next_token, parse_decls, start_text};
-use row_language::RowErr;
+use row_language::{Answer, RowErr, count, first_word, say};
 use std::alloc::Global;
 use term_model::MOST_COUNTED;
 

@@ -3,7 +3,7 @@
 ghost use Rattle.std.specs.Prelude.{◌≡◌, ◌≤◌, ◌≤ℤ◌, ◌^◌, IfOk, pos, true, unsigned_abs};
 ghost use Rattle.term_model.specs.Limits.{is_a_version, last_start};
 
-use row_language::{RowErr, number_of};
+use row_language::{RowErr, count};
 use term_model::LAST_START;
 
 /// A call on an accepted contract over fixings, on a day.
@@ -70,19 +70,6 @@ pub fn call_of(name: &str) -> Result<Call, RowErr> {
         "value_scratch" => Ok(Call::ValueScratch),
         "fixings" => Ok(Call::Fixings),
         _ => Ok(Call::OnDay(day_call(name)?)),
-    }
-}
-
-/// The first word, and what stands behind the bar after it.
-pub fn first_word(words: &str) -> (&str, &str) {
-    words.split_once('|').unwrap_or((words, ""))
-}
-
-/// A count, or a place.
-pub fn count(word: &str) -> Result<u32, RowErr> {
-    match u32::try_from(number_of(word)?) {
-        Ok(number) => Ok(number),
-        Err(_) => Err(RowErr::Number),
     }
 }
 

@@ -35,9 +35,11 @@
 mod output;
 mod row_err;
 mod rows;
+mod saying;
 mod text;
 
 pub use output::push_output;
 pub use row_err::RowErr;
 pub use rows::{Rows, Taken};
-pub use text::{Named, number_of};
+pub use saying::{Answer, say, say_same, say_words};
+pub use text::{Named, count, first_word, number_of};

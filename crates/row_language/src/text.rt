@@ -27,6 +27,19 @@ pub fn number_of(digits: &str) -> Result<u64, RowErr> {
     digits.parse::<u64>().map_err(|_| RowErr::Number)
 }
 
+/// A count, or a place.
+pub fn count(word: &str) -> Result<u32, RowErr> {
+    match u32::try_from(number_of(word)?) {
+        Ok(number) => Ok(number),
+        Err(_) => Err(RowErr::Number),
+    }
+}
+
+/// The first word, and what stands behind the bar after it.
+pub fn first_word(words: &str) -> (&str, &str) {
+    words.split_once('|').unwrap_or((words, ""))
+}
+
 // The byte of two hexadecimal digits.
 fn byte_of(digits: &str) -> Option<u8> {
     if digits.starts_with('+') {

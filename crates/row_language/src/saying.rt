@@ -1,6 +1,6 @@
 //! Answers as lines.
 
-use row_language::RowErr;
+use crate::row_err::RowErr;
 use std::fmt::Debug;
 
 /// Whether what a call answers was appended.
