@@ -25,5 +25,7 @@ pub mod RestFacts
 pub mod RoundFacts
 pub mod KnownFacts
 pub mod SimpleFacts
+pub mod SettledSums
+pub mod HandedOnFacts
 pub mod GoneFacts
 pub mod ResidualFacts

@@ -33,7 +33,7 @@ use Rattle.advance_step.proofs.ReducingFacts.{each_kind, stays}
 
 -- ---- factors
 
-not_so : (b : Bool) → not b ≡ true → b ≡ false
+pub not_so : (b : Bool) → not b ≡ true → b ≡ false
 not_so true h = absurd (cc)
 not_so false h = refl
 
@@ -68,11 +68,11 @@ not_told d F o = each_factor (λ e. specialised d F o e ≡ e) (λ m s not_zero.
 
 -- ---- no part reduces
 
-neither : (a b : Bool) → a ≡ false → b ≡ false → (a || b) ≡ false
+pub neither : (a b : Bool) → a ≡ false → b ≡ false → (a || b) ≡ false
 neither true b p q = absurd (cc)
 neither false b p q = q
 
-not_now : (n : ℕ) → 1 ≤ n → (n == 0) ≡ false
+pub not_now : (n : ℕ) → 1 ≤ n → (n == 0) ≡ false
 not_now n h = grind (arith, nat_tests, h)
 
 some : (c : Contract) → IsReducedSimple c → is_nothing c ≡ false
@@ -152,7 +152,7 @@ left_stays d (Within e n a b) g env f j h = absurd h
 no_turn : (d : Declarations) (ks : List Kind) (e : Expression) → is_factor e ≡ true → turned d ks e ≡ e
 no_turn d ks = each_factor (λ e. turned d ks e ≡ e) (λ m s not_zero. refl)
 
-no_rule : (c : Contract) → is_contract_redex c ≡ false → rule_in c ≡ c
+pub no_rule : (c : Contract) → is_contract_redex c ≡ false → rule_in c ≡ c
 no_rule c h = ap (λ (b : Bool). if b then made c else c) h
 
 unturned : (d : Declarations) (ks : List Kind) (c : Contract) → IsReducedSimple c → turned_in d ks c ≡ c

@@ -3,6 +3,7 @@ pub mod SimpleContracts
 pub mod CarryingWalk
 pub mod Reducing
 pub mod Residual
+pub mod HandedOn
 pub mod Advancing
 pub mod LawsAdvancing
 pub mod LawsLeft

@@ -15,12 +15,14 @@
 mod advancing;
 mod carried;
 mod gone;
+mod handed_on;
 mod known;
 pub mod laws;
 mod parts;
 mod questions;
 mod reducing;
 mod residual;
+mod settled;
 mod simple_contracts;
 mod span;
 mod stepping;

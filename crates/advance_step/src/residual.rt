@@ -11,12 +11,14 @@ ghost use Rattle.advance_step.specs.Advancing.{AnswersReducedRest, AnswersResidu
 ghost use Rattle.advance_step.specs.Residual.{AnswersLeftAfter, ReadsAreFixed};
 
 use crate::gone::is_gone;
+use crate::handed_on::{handed_on, is_handed_on};
 use crate::known::carry_known;
 use crate::reducing::reduce;
 use crate::simple_contracts::{is_reduced_simple, left_of_simple};
 use crate::span::DaysGone;
 use decimal::NoMemory;
-use fixing_files::Fixings;
+use expr_eval::Scratch;
+use fixing_files::{Fixings, Known};
 use flow_eval::FlowErr;
 use std::alloc::Global;
 use std::rc::Rc;
@@ -120,7 +122,8 @@ pub fn residual_of(
     Ok(unshare(alloc, &rest)?)
 }
 
-/// The residual of a contract that is handed over. That of a simple one is made of its parts.
+/// The residual of a contract that is handed over. That of a simple one is made of its parts, and
+/// so is that of one of which all that is left is handed on.
 pub fn rest_of(
     alloc: Global,
     decls: &Decls,
@@ -137,9 +140,15 @@ pub fn rest_of(
     ensures { AnswersResidual (declarations decls.now) fixings.now
         gone.from gone.days (contract c) result }
 {
-    if gone.days > 0 && is_reduced_simple(&c) {
-        Ok(left_of_simple(alloc, c, gone.days - 1)?)
-    } else {
-        residual_of(alloc, decls, &c, fixings, gone)
+    if gone.days > 0 {
+        if is_reduced_simple(&c) {
+            return Ok(left_of_simple(alloc, c, gone.days - 1)?);
+        }
+        let scratch = Scratch::with_room(alloc, 0)?;
+        let span = gone.span();
+        if is_handed_on(&Known { decls, fixings }, &scratch, span, &c) {
+            return Ok(handed_on(alloc, c, span.last)?);
+        }
     }
+    residual_of(alloc, decls, &c, fixings, gone)
 }

@@ -23,8 +23,8 @@ fn is_factor(e: &Expr) -> bool
     }
 }
 
-// Whether a contract waits.
-fn is_later(c: &Contr) -> bool
+/// Whether a contract waits.
+pub fn is_later(c: &Contr) -> bool
     ensures { result ≡ is_later (contract c.now) }
 {
     matches!(c, Contr::After { .. })
@@ -45,8 +45,8 @@ pub fn is_reduced_simple(c: &Contr) -> bool
     }
 }
 
-// What is left of two parts.
-fn both_left(alloc: Global, left: Contr, right: Contr) -> Result<Contr, NoMemory>
+/// What is left of two parts.
+pub fn both_left(alloc: Global, left: Contr, right: Contr) -> Result<Contr, NoMemory>
     ensures { IfOk result (λ r. contract r ≡ model.both_left (contract left) (contract right)) }
 {
     if let Contr::Zero = left {
@@ -72,8 +72,8 @@ fn scale_left(alloc: Global, factor: Expr, body: Contr) -> Result<Contr, NoMemor
     Ok(Contr::Scale { factor, body })
 }
 
-// What waits for some days more.
-fn delayed(days: u32, body: Box<Contr>) -> Contr
+/// What waits for some days more.
+pub fn delayed(days: u32, body: Box<Contr>) -> Contr
     ensures { contract result ≡ model.delayed days (contract body.value) }
 {
     if days == 0 {

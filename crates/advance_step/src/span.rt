@@ -27,6 +27,13 @@ impl Span {
         }
     }
 
+    /// The day behind them.
+    pub fn new_day(self) -> i64
+        ensures { result ≡ self.day +ℤ pos (self.last + 1) }
+    {
+        days_later(self.day, self.last + 1)
+    }
+
     /// On how many of them a test of so many days is tried.
     pub fn tried(self, days: u32) -> u32
         ensures { result ≡ min days self.last + 1 }
