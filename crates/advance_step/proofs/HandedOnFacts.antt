@@ -28,7 +28,7 @@ use Rattle.simplify.specs.TurningContracts.{HasNoPlainIn, is_contract_redex, is_
 use Rattle.simplify.proofs.SimplifyingFacts.{literals_fit}
 use Rattle.advance_step.specs.Advancing.{IsResidual}
 use Rattle.advance_step.specs.CarryingWalk.{IsLeftEverywhere}
-use Rattle.advance_step.specs.HandedOn.{Either, IsHandedOn, IsSettled, Stays, handed, is_open, lacks}
+use Rattle.advance_step.specs.HandedOn.{AreFalseOn, Either, IsHandedOn, IsSettled, Stays, StaysBehind, handed, is_open, lacks}
 use Rattle.advance_step.specs.Reducing.{reduced, reduced_once}
 use Rattle.advance_step.specs.WhatIsLeft.{both_left, delayed, left_of, scale_left, let_left}
 use Rattle.advance_step.proofs.KnownFacts.{left_after, near_enough}
@@ -215,26 +215,26 @@ round_leaves d F f c h = ap (turned_in d []) (untold_in d F (Some f) c h) ∙ un
 
 -- ---- it is what is left
 
-case : (X : Type 0) (A B : Type 0) (b : Bool) (x y z w : X) → Either b A B → (A → x ≡ z) → (B → y ≡ w) → (if b then x else y) ≡ (if b then z else w)
-case X A B true x y z w h p q = p h
-case X A B false x y z w h p q = q h
+case : (X : Type 0) (A B C : Type 0) (b : Bool) (x y z w : X) → Either b A B → Either b C (Unit {0}) → (A → C → x ≡ z) → (B → y ≡ w) → (if b then x else y) ≡ (if b then z else w)
+case X A B C true x y z w h k p q = p h k
+case X A B C false x y z w h k p q = q h
 
 module _ (d : Declarations) (F : Environment) where
-  is_left : (env : Environment) → Extends F env → (c : Contract) (f : ℤ) (j : ℕ) → IsHandedOn d F c f j → left_of d c [] env f j ≡ handed c j
-  is_left env ext Zero f j h = refl
-  is_left env ext (Pay a p q) f j h = refl
-  is_left env ext (Both a b) f j h = ap₂ both_left (is_left env ext a f j h.0) (is_left env ext b f j h.1)
-  is_left env ext (Scale e c) f j h = ap (scale_left (shifted (negsuc j) e)) (gone d c [] env f j h)
-  is_left env ext (Let e c) f j h = ap (let_left (shifted (negsuc j) e)) (gone d c (entry_of d e [] env f ∷ []) env f j h)
-  is_left env ext (After m c) f j h =
-      case Contract _ _ (nat_le (count_of m) j) _ _ _ _ h (is_left env ext c (f +ℤ pos (count_of m)) (j - count_of m)) (λ _. refl)
-  is_left env ext (Within e m a b) f j h =
+  is_left : (env : Environment) → Extends F env → (c : Contract) (f : ℤ) (j : ℕ) → StaysBehind F c f j → AreFalseOn d F c f j → left_of d c [] env f j ≡ handed c j
+  is_left env ext Zero f j h k = refl
+  is_left env ext (Pay a p q) f j h k = refl
+  is_left env ext (Both a b) f j h k = ap₂ both_left (is_left env ext a f j h.0 k.0) (is_left env ext b f j h.1 k.1)
+  is_left env ext (Scale e c) f j h k = ap (scale_left (shifted (negsuc j) e)) (gone d c [] env f j h)
+  is_left env ext (Let e c) f j h k = ap (let_left (shifted (negsuc j) e)) (gone d c (entry_of d e [] env f ∷ []) env f j h)
+  is_left env ext (After m c) f j h k =
+      case Contract _ _ _ (nat_le (count_of m) j) _ _ _ _ h k (is_left env ext c (f +ℤ pos (count_of m)) (j - count_of m)) (λ _. refl)
+  is_left env ext (Within e m a b) f j h k =
       let n = count_of m in
       ap (λ (o : Option ℕ). elim o [
-        | Some k ↦ left_of d a [] env (f +ℤ pos k) (j - k)
+        | Some i ↦ left_of d a [] env (f +ℤ pos i) (j - i)
         | None ↦ if nat_le n j then left_of d b [] env (f +ℤ pos n) (j - n) else Within e (Count (n - suc j)) a b
-      ]) (h.0 env ext)
-      ∙ case Contract _ _ (nat_le n j) _ _ _ _ h.1 (is_left env ext b (f +ℤ pos n) (j - n)) (λ _. refl)
+      ]) (k.0 env ext)
+      ∙ case Contract _ _ _ (nat_le n j) _ _ _ _ h k.1 (is_left env ext b (f +ℤ pos n) (j - n)) (λ _. refl)
 
 -- ---- and it stays
 
@@ -257,21 +257,21 @@ sooner f n j lt = omega (arith, ints, lt)
 later : (f : ℤ) (n j : ℕ) → n ≤ j → (f +ℤ pos n) +ℤ pos (suc (j - n)) ≡ f +ℤ pos (suc j)
 later f n j le = omega (arith, ints, le)
 
-handed_stays : (d : Declarations) (F : Environment) (c : Contract) (f : ℤ) (j : ℕ) → IsHandedOn d F c f j → Stays F (Some (f +ℤ pos (suc j))) (handed c j)
-handed_stays d F Zero f j h = tt
-handed_stays d F (Pay a p q) f j h = tt
-handed_stays d F (Both a b) f j h = both_stay F (Some (f +ℤ pos (suc j))) (handed a j) (handed b j) (handed_stays d F a f j h.0) (handed_stays d F b f j h.1)
-handed_stays d F (Scale e c) f j h = tt
-handed_stays d F (Let e c) f j h = tt
-handed_stays d F (After m c) f j h =
+handed_stays : (F : Environment) (c : Contract) (f : ℤ) (j : ℕ) → StaysBehind F c f j → Stays F (Some (f +ℤ pos (suc j))) (handed c j)
+handed_stays F Zero f j h = tt
+handed_stays F (Pay a p q) f j h = tt
+handed_stays F (Both a b) f j h = both_stay F (Some (f +ℤ pos (suc j))) (handed a j) (handed b j) (handed_stays F a f j h.0) (handed_stays F b f j h.1)
+handed_stays F (Scale e c) f j h = tt
+handed_stays F (Let e c) f j h = tt
+handed_stays F (After m c) f j h =
     let n = count_of m in
     pick (Stays F (Some (f +ℤ pos (suc j)))) _ _ (nat_le n j) (handed c (j - n)) (delayed (n - suc j) c) h
-    (λ t k. subst (λ (x : ℤ). Stays F (Some x) (handed c (j - n))) (later f n j (le_of n j t)) (handed_stays d F c (f +ℤ pos n) (j - n) k))
+    (λ t k. subst (λ (x : ℤ). Stays F (Some x) (handed c (j - n))) (later f n j (le_of n j t)) (handed_stays F c (f +ℤ pos n) (j - n) k))
     (λ t k. delayed_stays F (f +ℤ pos (suc j)) (n - suc j) c k.0 k.1 (subst (λ (x : ℤ). Stays F (Some x) c) (sym (sooner f n j (lt_of n j t))) k.2))
-handed_stays d F (Within e m a b) f j h =
+handed_stays F (Within e m a b) f j h =
     let n = count_of m in
-    pick (Stays F (Some (f +ℤ pos (suc j)))) _ _ (nat_le n j) (handed b (j - n)) (Within e (Count (n - suc j)) a b) h.1
-    (λ t k. subst (λ (x : ℤ). Stays F (Some x) (handed b (j - n))) (later f n j (le_of n j t)) (handed_stays d F b (f +ℤ pos n) (j - n) k))
+    pick (Stays F (Some (f +ℤ pos (suc j)))) _ _ (nat_le n j) (handed b (j - n)) (Within e (Count (n - suc j)) a b) h
+    (λ t k. subst (λ (x : ℤ). Stays F (Some x) (handed b (j - n))) (later f n j (le_of n j t)) (handed_stays F b (f +ℤ pos n) (j - n) k))
     (λ t k. k)
 
 -- ---- so it is a residual
@@ -291,10 +291,10 @@ handed_rest : (d : Declarations) (F : Environment) (c rest : Contract) (f : ℤ)
     → IsResidual d F f (suc j) c rest
 handed_rest d F c rest f j limits admitted a w n h is =
     let there = f +ℤ pos (suc j) in
-    let any : IsLeftEverywhere d F c f j rest = λ env ext. is ∙ sym (is_left d F env ext c f j h) in
+    let any : IsLeftEverywhere d F c f j rest = λ env ext. is ∙ sym (is_left d F env ext c f j h.0 h.1) in
     let left = left_after d F c rest f j limits a n any in
     let here : rest ≡ left_of d c [] F f j = any F (λ q v e. e) in
-    let still : Stays F (Some there) rest = subst (Stays F (Some there)) (sym is) (handed_stays d F c f j h) in
+    let still : Stays F (Some there) rest = subst (Stays F (Some there)) (sym is) (handed_stays F c f j h.0) in
     record {
       exact = λ env same. sym (rounds_leave d F there rest still) ∙ same_reduced d F env same there rest ∙ ap (reduced d env there) (any env (extends d F env same));
       accepted = left.accepted;

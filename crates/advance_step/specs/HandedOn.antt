@@ -72,21 +72,33 @@ Either false A B = B
 abbrev pub IsFalseUpTo : Declarations → Expression → Environment → ℤ → ℕ → Type 0
 IsFalseUpTo d e F f n = (env : Environment) → Extends F env → first_true d e [] env f n ≡ None
 
--- a contract that stands on day f is handed on over j days more: what stands on these days is gone then, tests are false
--- on them, and what stands later stays
-abbrev pub IsHandedOn : Declarations → Environment → Contract → ℤ → ℕ → Type 0
-IsHandedOn d F Zero f j = Unit {0}
-IsHandedOn d F (Pay a p q) f j = Unit {0}
-IsHandedOn d F (Both a b) f j = IsHandedOn d F a f j × IsHandedOn d F b f j
-IsHandedOn d F (Scale e c) f j = reach c ≤ j
-IsHandedOn d F (Let e c) f j = reach c ≤ j
-IsHandedOn d F (After m c) f j =
-    Either (nat_le (count_of m) j) (IsHandedOn d F c (f +ℤ pos (count_of m)) (j - count_of m))
+-- of a contract that stands on day f: what stands on the j days from there is gone then, and what stands later stays
+abbrev pub StaysBehind : Environment → Contract → ℤ → ℕ → Type 0
+StaysBehind F Zero f j = Unit {0}
+StaysBehind F (Pay a p q) f j = Unit {0}
+StaysBehind F (Both a b) f j = StaysBehind F a f j × StaysBehind F b f j
+StaysBehind F (Scale e c) f j = reach c ≤ j
+StaysBehind F (Let e c) f j = reach c ≤ j
+StaysBehind F (After m c) f j =
+    Either (nat_le (count_of m) j) (StaysBehind F c (f +ℤ pos (count_of m)) (j - count_of m))
     ((is_later c ≡ false) × (is_nothing c ≡ false) × Stays F (Some (f +ℤ pos (count_of m))) c)
-IsHandedOn d F (Within e m a b) f j =
-    IsFalseUpTo d e F f (min (count_of m) j)
-    × Either (nat_le (count_of m) j) (IsHandedOn d F b (f +ℤ pos (count_of m)) (j - count_of m))
+StaysBehind F (Within e m a b) f j =
+    Either (nat_le (count_of m) j) (StaysBehind F b (f +ℤ pos (count_of m)) (j - count_of m))
     (Stays F (Some (f +ℤ pos (suc j))) (Within e (Count (count_of m - suc j)) a b))
+
+-- and the tests that are tried on these days are false on them
+abbrev pub AreFalseOn : Declarations → Environment → Contract → ℤ → ℕ → Type 0
+AreFalseOn d F (Both a b) f j = AreFalseOn d F a f j × AreFalseOn d F b f j
+AreFalseOn d F (After m c) f j =
+    Either (nat_le (count_of m) j) (AreFalseOn d F c (f +ℤ pos (count_of m)) (j - count_of m)) (Unit {0})
+AreFalseOn d F (Within e m a b) f j =
+    IsFalseUpTo d e F f (min (count_of m) j)
+    × Either (nat_le (count_of m) j) (AreFalseOn d F b (f +ℤ pos (count_of m)) (j - count_of m)) (Unit {0})
+AreFalseOn d F _ f j = Unit {0}
+
+-- so it is handed on over j days more
+abbrev pub IsHandedOn : Declarations → Environment → Contract → ℤ → ℕ → Type 0
+IsHandedOn d F c f j = StaysBehind F c f j × AreFalseOn d F c f j
 
 -- what is left of it, by its form alone
 abbrev pub handed : Contract → ℕ → Contract

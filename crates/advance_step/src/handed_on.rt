@@ -5,7 +5,7 @@
 ghost use Rattle.std.specs.Prelude.{◌≡◌, true, min, IfOk, []};
 ghost use Rattle.term_model.specs.Terms.{contract, expression};
 ghost use Rattle.expr_eval.specs.Evaluable.{MayEvaluate, MayEvaluateIn};
-ghost use Rattle.advance_step.specs.HandedOn.{IsFalseUpTo, IsHandedOn, handed};
+ghost use Rattle.advance_step.specs.HandedOn.{AreFalseOn, IsFalseUpTo, IsHandedOn, StaysBehind, handed};
 
 use crate::gone::is_gone;
 use crate::questions::first_day;
@@ -14,29 +14,26 @@ use crate::simple_contracts::{both_left, delayed, is_later};
 use crate::span::Span;
 use decimal::NoMemory;
 use expr_eval::Scratch;
-use fixing_files::Known;
+use fixing_files::{Fixings, Known};
 use std::alloc::Global;
 use term_model::{Contr, Days, Expr};
 
-/// Whether a contract is handed on over the days of a span.
-pub fn is_handed_on(known: &Known, scratch: &Scratch, span: Span, c: &Contr) -> bool
-    requires part { MayEvaluateIn known.now.decls (contract c.now) scratch.now.entries }
-    requires no_names { scratch.now.entries ≡ [] }
-    ensures { result ≡ true → IsHandedOn known.now.decls known.now.fixings (contract c.now)
-        span.day span.last }
+// Whether what stands behind the days of a span stays as it is, and what stands on them is gone then.
+fn stays_behind(fixings: &Fixings, span: Span, c: &Contr) -> bool
+    ensures { result ≡ true → StaysBehind fixings.now (contract c.now) span.day span.last }
 {
     match c {
         Contr::Zero | Contr::Pay { .. } => true,
         Contr::Both { left, right } => {
-            is_handed_on(known, scratch, span, left) && is_handed_on(known, scratch, span, right)
+            stays_behind(fixings, span, left) && stays_behind(fixings, span, right)
         }
         Contr::Scale { body, .. } | Contr::Let { body, .. } => is_gone(body, span.last + 1),
         Contr::After { days, body } => {
             let days = days.number();
             if days <= span.last {
-                is_handed_on(known, scratch, span.after(days), body)
+                stays_behind(fixings, span.after(days), body)
             } else {
-                !is_later(body) && later_stays(known.fixings, span.day, days, body)
+                !is_later(body) && later_stays(fixings, span.day, days, body)
             }
         }
         Contr::Within {
@@ -46,14 +43,17 @@ pub fn is_handed_on(known: &Known, scratch: &Scratch, span: Span, c: &Contr) -> 
             miss,
         } => {
             let days = days.number();
-            if !is_false_on(known, scratch, span, test, days) {
-                return false;
-            }
             if days <= span.last {
-                is_handed_on(known, scratch, span.after(days), miss)
+                stays_behind(fixings, span.after(days), miss)
             } else {
-                let left = days - span.last - 1;
-                waits(known.fixings, span.new_day(), test, left, hit, miss)
+                waits(
+                    fixings,
+                    span.new_day(),
+                    test,
+                    days - span.last - 1,
+                    hit,
+                    miss,
+                )
             }
         }
     }
@@ -67,6 +67,46 @@ fn is_false_on(known: &Known, scratch: &Scratch, span: Span, test: &Expr, days: 
         span.day (min days span.last) }
 {
     matches!(first_day(known, test, scratch, span, days), Ok(None))
+}
+
+// Whether the tests that are tried on the days of a span are false on them.
+fn are_false_on(known: &Known, scratch: &Scratch, span: Span, c: &Contr) -> bool
+    requires part { MayEvaluateIn known.now.decls (contract c.now) scratch.now.entries }
+    requires no_names { scratch.now.entries ≡ [] }
+    ensures { result ≡ true → AreFalseOn known.now.decls known.now.fixings (contract c.now)
+        span.day span.last }
+{
+    match c {
+        Contr::Zero | Contr::Pay { .. } | Contr::Scale { .. } | Contr::Let { .. } => true,
+        Contr::Both { left, right } => {
+            are_false_on(known, scratch, span, left) && are_false_on(known, scratch, span, right)
+        }
+        Contr::After { days, body } => {
+            let days = days.number();
+            days > span.last || are_false_on(known, scratch, span.after(days), body)
+        }
+        Contr::Within {
+            test,
+            days,
+            miss,
+            ..
+        } => {
+            let days = days.number();
+            is_false_on(known, scratch, span, test, days)
+                && (days > span.last || are_false_on(known, scratch, span.after(days), miss))
+        }
+    }
+}
+
+/// Whether a contract is handed on over the days of a span. Tests are tried last, since a contract
+/// that is not handed on is walked through again.
+pub fn is_handed_on(known: &Known, scratch: &Scratch, span: Span, c: &Contr) -> bool
+    requires part { MayEvaluateIn known.now.decls (contract c.now) scratch.now.entries }
+    requires no_names { scratch.now.entries ≡ [] }
+    ensures { result ≡ true → IsHandedOn known.now.decls known.now.fixings (contract c.now)
+        span.day span.last }
+{
+    stays_behind(known.fixings, span, c) && are_false_on(known, scratch, span, c)
 }
 
 /// What is left of it after `last + 1` days.

@@ -3,7 +3,7 @@ use Rattle.term_model.specs.Terms.{contract}
 use Rattle.term_model.specs.declared.terms.Contr.{Contr}
 use Rattle.expr_eval.specs.Evaluable.{MayEvaluateIn}
 use Rattle.expr_eval.proofs.PartFacts.{parts_of_parts_may_evaluate}
-use Rattle.advance_step.proofs.handed_on.+is_handed_on.Goals as goal
+use Rattle.advance_step.proofs.handed_on.+are_false_on.Goals as goal
 
 pub is_false_on-requires-clause-place : goal.is_false_on-requires-clause-place
 is_false_on-requires-clause-place t c =
