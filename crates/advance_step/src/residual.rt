@@ -146,7 +146,7 @@ pub fn rest_of(
         }
         let scratch = Scratch::with_room(alloc, 0)?;
         let span = gone.span();
-        if is_handed_on(&Known { decls, fixings }, &scratch, span, &c) {
+        if !is_gone(&c, gone.days) && is_handed_on(&Known { decls, fixings }, &scratch, span, &c) {
             return Ok(handed_on(alloc, c, span.last)?);
         }
     }
