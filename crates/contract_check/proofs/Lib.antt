@@ -7,4 +7,5 @@ pub mod HorizonFacts
 pub mod CheckFacts
 pub mod Granted
 pub mod SimpleRules
+pub mod FactorFacts
 pub mod SimpleFacts

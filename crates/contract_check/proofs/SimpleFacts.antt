@@ -1,5 +1,5 @@
 -- What is measured of a simple contract, from its parts.
-use Rattle.std.proofs.Common.{◌≡◌, ℕ, ℤ, pos, ◌-ℤ◌, ◌≤ℤ◌, ◌+◌, ◌-◌, ◌*◌, ◌^◌, ◌≤◌, max, unsigned_abs, le-leb, [], Option, Some, None, refl, ap, ap₂, sym, subst, ◌∙◌, arith}
+use Rattle.std.proofs.Common.{◌≡◌, ℕ, ℤ, pos, negsuc, ◌-ℤ◌, ◌≤ℤ◌, ◌+◌, ◌-◌, ◌*◌, ◌^◌, ◌≤◌, max, le-leb, true, [], Option, Some, None, refl, ap, ap₂, sym, subst, ◌∙◌, arith}
 use Rattle.std.specs.Prelude.{option_map, IfSome}
 use Rattle.std.proofs.Math.Nat.{mul_right_comm}
 use Rattle.std.proofs.lemmas.Bool.{and_from}
@@ -7,16 +7,22 @@ use Rattle.std.proofs.lemmas.Int.{ints}
 use Rattle.decimal.proofs.PowerFacts.{ten_most}
 use Rattle.term_model.specs.Declarations.{Declarations, decimals_of}
 use Rattle.term_model.specs.DayCounts.{Days}
-use Rattle.term_model.specs.Terms.{Lit, Contract, Zero, Pay, Both, Scale, After}
+use Rattle.term_model.specs.Terms.{Expression, Contract, Zero, Pay, Both, Scale, After}
 use Rattle.term_model.specs.Flows.{count_of, scale_of_contract}
 use Rattle.term_model.specs.Horizons as horizons
 use Rattle.term_model.specs.Horizons.{horizon_of}
-use Rattle.term_model.specs.Times.{IsStart}
-use Rattle.term_model.specs.Bounds.{total_of}
+use Rattle.term_model.specs.AssetScales.{payments_fit}
+use Rattle.term_model.specs.Kinds.{scale_of, scale_or_zero}
+use Rattle.term_model.specs.Sites.{kinds_round}
+use Rattle.term_model.specs.Sorts.{is_number}
+use Rattle.term_model.specs.Times.{IsStart, Typed, TypedContract}
+use Rattle.term_model.specs.Bounds.{greatest_size, interval_of, total_of}
 use Rattle.interval_check.proofs.AlignedFacts.{sum_raised_twice}
+use Rattle.contract_check.specs.SimpleFactors.{IsFactor}
+use Rattle.contract_check.specs.declared.simple_factors.Factor.{Factor}
 use Rattle.contract_check.specs.declared.simple_contracts.Measure.{Measure}
 use Rattle.contract_check.specs.SimpleContracts.{nothing, payment, sooner, joined, multiplied, delayed, IsWithin, IsEarly, IsBy, StartsOn, IsMeasure, IsMeasured}
-use Rattle.contract_check.proofs.SimpleRules.{passes_here, leaf_rules, both_rules, scaled_rules, delayed_rules}
+use Rattle.contract_check.proofs.SimpleRules.{SortsAreRight, by_zero, passes_here, leaf_rules, both_rules, scaled_rules, delayed_rules}
 
 -- ---- what pays nothing, and a transfer
 
@@ -27,7 +33,7 @@ nothing_measure d above le =
       height = refl;
       nodes = refl;
       reach = refl;
-      past = refl;
+      past = omega arith;
       work = omega arith;
       start = λ t. ((λ p. tt), (λ q. tt));
       early = tt;
@@ -55,7 +61,7 @@ payment_measure d above a p q le few fits =
       height = refl;
       nodes = refl;
       reach = refl;
-      past = refl;
+      past = omega arith;
       work = omega arith;
       start = λ t. ((λ h. h), (λ h. h));
       early = omega arith;
@@ -119,40 +125,50 @@ both_measured d above a b x y few h g within =
     let m = both_measure d above a b x y h.1 g.1 within in
     (both_rules d a b h.0 g.0 (passes_here d above (Both a b) (joined x y) few (λ r k. refl) m), m)
 
--- ---- under a literal
+-- ---- under a factor
 
 by_sooner : (t s : ℤ) (start : Option ℕ) → t ≤ℤ s → IsBy s start → IsBy t start
 by_sooner t s None le h = tt
 by_sooner t s (Some day) le h = omega (arith, ints, le, h)
 
-scaled_total : (t p q size k above s i : ℕ) → p ≡ t * 10 ^ (k - (above + s) - i) → size ≡ q → p * size ≡ t * max q q * 10 ^ (k - above - (s + i))
+-- a factor that is known from day 0 on puts off no start
+at_start : (d : Declarations) (e : Expression) (c : Contract) (start : Option ℕ) → ((t : ℤ) → pos 0 ≤ℤ t → Typed [] e t) → StartsOn c start → (t : ℤ) → IsBy t start → TypedContract [] (Scale e c) t
+at_start d e c start known h (pos n) by = (pos n, omega (arith, ints), known (pos n) (omega (arith, ints)), (h (pos n)).1 by)
+at_start d e c start known h (negsuc n) by = (pos 0, omega (arith, ints), known (pos 0) (omega (arith, ints)), (h (pos 0)).1 (by_zero start))
+
+scaled_total : (t p q size k above s i : ℕ) → p ≡ t * 10 ^ (k - (above + s) - i) → size ≡ q → p * size ≡ t * q * 10 ^ (k - above - (s + i))
 scaled_total t p q size k above s i e f =
     let exponent : k - (above + s) - i ≡ k - above - (s + i) = omega arith in
-    let same : size ≡ max q q = omega arith in
-    ap₂ (λ (x y : ℕ). x * y) (e ∙ ap (λ (j : ℕ). t * 10 ^ j) exponent) same ∙ mul_right_comm t (10 ^ (k - above - (s + i))) (max q q)
+    ap₂ (λ (x y : ℕ). x * y) (e ∙ ap (λ (j : ℕ). t * 10 ^ j) exponent) f ∙ mul_right_comm t (10 ^ (k - above - (s + i))) q
 
-scaled_measure : (d : Declarations) (above : ℕ) (n : ℤ) (s : ℕ) (c : Contract) (x : Measure) → IsMeasure d (above + s) c x → IsWithin (multiplied (unsigned_abs n) s x) → IsMeasure d above (Scale (Lit n s) c) (multiplied (unsigned_abs n) s x)
-scaled_measure d above n s c x h within =
+scaled_measure : (d : Declarations) (above : ℕ) (e : Expression) (f : Factor) (c : Contract) (x : Measure) → IsFactor d e f → IsMeasure d (above + f.scale) c x → IsWithin (multiplied f x) → IsMeasure d above (Scale e c) (multiplied f x)
+scaled_measure d above e f c x factor h within =
+    let s : scale_of d e [] ≡ f.scale = ap scale_or_zero (factor.number []) in
     record {
       within = within;
-      height = omega (arith, h.height);
-      nodes = omega (arith, h.nodes);
+      height = ap₂ (λ (i j : ℕ). max i j + 1) factor.right_height h.height;
+      nodes = ap₂ (λ (i j : ℕ). i + j + 1) factor.right_nodes h.nodes;
       reach = h.reach;
-      past = omega (arith, h.past);
-      work = omega (arith, h.work);
-      start = λ t. ((λ p. by_sooner t p.0 x.start p.1 ((h.start p.0).0 p.3)), (λ q. (t, omega (arith, ints), tt, (h.start t).1 q)));
+      past = omega (arith, h.past, factor.recent);
+      work = omega (arith, h.work, factor.little);
+      start = λ t. ((λ p. by_sooner t p.0 x.start p.1 ((h.start p.0).0 p.3)), at_start d e c x.start factor.known h.start t);
       early = h.early;
       horizon = h.horizon;
-      scale = ap (λ (i : ℕ). s + i) h.scale;
-      decimals = omega (arith, h.decimals);
-      payments = h.payments;
-      total = scaled_total (total_of d c []) x.total (unsigned_abs n) (unsigned_abs n) d.amounts above s (scale_of_contract d c []) h.total refl;
+      scale = ap₂ (λ (i j : ℕ). i + j) (sym s) h.scale;
+      decimals = omega (arith, h.decimals, s);
+      payments = subst (λ (i : ℕ). payments_fit d c [] (above + i) ≡ true) (sym s) h.payments;
+      total =
+          subst (λ (i : ℕ). x.total * f.size ≡ total_of d c [] * greatest_size (interval_of d e []) * 10 ^ (d.amounts - above - (i + scale_of_contract d c []))) (sym s)
+          (scaled_total (total_of d c []) x.total (greatest_size (interval_of d e [])) f.size d.amounts above f.scale (scale_of_contract d c []) h.total factor.right_size);
     }
 
-pub scaled_measured : (d : Declarations) (above : ℕ) (n : ℤ) (s : ℕ) (c : Contract) (x : Measure) → above + s ≤ 9 → unsigned_abs n ≤ 10 ^ 18 → IsMeasured d (above + s) c x → IsWithin (multiplied (unsigned_abs n) s x) → IsMeasured d above (Scale (Lit n s) c) (multiplied (unsigned_abs n) s x)
-scaled_measured d above n s c x few small h within =
-    let m = scaled_measure d above n s c x h.1 within in
-    (scaled_rules d n s c (omega arith) (omega arith) h.0 (passes_here d above (Scale (Lit n s) c) (multiplied (unsigned_abs n) s x) (omega arith) (λ r k. refl) m), m)
+scaled_sorts : (d : Declarations) (e : Expression) (f : Factor) (c : Contract) → IsFactor d e f → SortsAreRight d (Scale e c)
+scaled_sorts d e f c factor r k = ap is_number (factor.number (kinds_round d r))
+
+pub scaled_measured : (d : Declarations) (above : ℕ) (e : Expression) (f : Factor) (c : Contract) (x : Measure) → above + f.scale ≤ 9 → IsFactor d e f → IsMeasured d (above + f.scale) c x → IsWithin (multiplied f x) → IsMeasured d above (Scale e c) (multiplied f x)
+scaled_measured d above e f c x few factor h within =
+    let m = scaled_measure d above e f c x factor h.1 within in
+    (scaled_rules d e c factor.met h.0 (passes_here d above (Scale e c) (multiplied f x) (omega (arith, few)) (scaled_sorts d e f c factor) m), m)
 
 -- ---- later
 

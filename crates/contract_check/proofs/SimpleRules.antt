@@ -1,5 +1,5 @@
 -- A simple contract meets each rule at each node: the node itself, from what is measured of it, and its parts.
-use Rattle.std.proofs.Common.{◌≡◌, ℕ, ℤ, pos, ◌+◌, ◌-◌, ◌*◌, ◌^◌, ◌≤◌, unsigned_abs, nat_le, leb-true, le-leb, ◌&&◌, true, List, [], ◌∷◌, ◌++◌, Option, Some, None, refl, sym, subst, ◌∙◌, arith}
+use Rattle.std.proofs.Common.{◌≡◌, ℕ, pos, ◌+◌, ◌-◌, ◌*◌, ◌^◌, ◌≤◌, nat_le, leb-true, le-leb, ◌&&◌, true, List, [], ◌∷◌, ◌++◌, Option, Some, None, refl, sym, subst, ◌∙◌, arith}
 use Rattle.std.proofs.Math.Nat.{mul-le-mul_right}
 use Rattle.std.proofs.lemmas.Bool.{and_parts, and_from}
 use Rattle.std.proofs.lemmas.Int.{ints}
@@ -9,17 +9,17 @@ use Rattle.term_model.specs.DayCounts.{Days}
 use Rattle.term_model.specs.declared.rules.Rule.{Rule}
 use Rattle.term_model.specs.declared.rules.Rule.TheVariants.{Sort, Time, Scale as ScaleRule, Size as SizeRule, Bound}
 use Rattle.term_model.specs.declared.values.Kind.{Kind}
-use Rattle.term_model.specs.Terms.{Lit, Contract, Zero, Pay, Both, Scale, After, Let, Within}
+use Rattle.term_model.specs.Terms.{Expression, Contract, Zero, Pay, Both, Scale, After, Let, Within}
 use Rattle.term_model.specs.Kinds.{scale_of, kind_of}
 use Rattle.term_model.specs.Values.{kind_or}
 use Rattle.term_model.specs.Flows.{count_of, scale_of_contract}
-use Rattle.term_model.specs.Sizes.{nodes_of_contract, height_of_contract, reach, past_of_contract, work_of_contract}
+use Rattle.term_model.specs.Sizes.{nodes, nodes_of_contract, height_of_contract, reach, past_of_contract, work_of_contract}
 use Rattle.term_model.specs.Smallness.{days_of_contract, within_limits}
 use Rattle.term_model.specs.Times.{IsAllowed}
 use Rattle.term_model.specs.AssetScales.{assets_are_scaled, payments_fit}
 use Rattle.term_model.specs.Bounds.{Range, ranges_round, total_of, aligned_total}
 use Rattle.term_model.specs.Sorts.{is_sorted}
-use Rattle.term_model.specs.Sites.{Site, Trial, Layer, Naming, Counting, Later, Earlier, Undated, sites_of_contract, contract_at, expression_at, kinds_round, AllPass}
+use Rattle.term_model.specs.Sites.{Site, Trial, Layer, Naming, Counting, Later, Earlier, Undated, sites_of, sites_of_contract, contract_at, kinds_round, AllPass}
 use Rattle.term_model.specs.Acceptance.{Passes}
 use Rattle.term_model.proofs.AssetFacts.{by_payments}
 use Rattle.term_model.proofs.Trials.{AllPass-append}
@@ -55,7 +55,7 @@ no_times (Undated ∷ r) h = absurd h
 
 -- ---- one node
 
-by_zero : (start : Option ℕ) → IsBy (pos 0) start
+pub by_zero : (start : Option ℕ) → IsBy (pos 0) start
 by_zero None = tt
 by_zero (Some day) = omega (arith, ints)
 
@@ -89,7 +89,7 @@ few_days (After n c) = omega arith
 few_days (Let e c) = omega arith
 few_days (Within e n a b) = omega arith
 
-limits_kept : (h n days far back steps : ℕ) → h ≤ 200 → n ≤ 100_000 → far ≤ 100_000 → days ≤ far → back ≡ 0 → steps ≤ n → within_limits h n days far back steps ≡ true
+pub limits_kept : (h n days far back steps : ℕ) → h ≤ 200 → n ≤ 100_000 → far ≤ 100_000 → days ≤ far → back ≤ 900_000 → steps ≤ n → within_limits h n days far back steps ≡ true
 limits_kept h n days far back steps low few near short none little =
     and_from _ _ (le-leb h 200 low)
     (and_from _ _ (le-leb n 100_000 few)
@@ -130,16 +130,6 @@ passes_here d above c m few sorted h SizeRule r k l =
 passes_here d above c m few sorted h Bound r k l =
     bounded_here d above c (ranges_round d r) (no_ranges d r l) few h.decimals (subst (λ (n : ℕ). n ≤ 10 ^ 18) h.total h.within.total)
 
--- a literal
-literal_passes : (d : Declarations) (m : ℤ) (s : ℕ) (rule : Rule) (r : List Layer) (k : ℕ) → s ≤ 27 → unsigned_abs m ≤ 10 ^ 37 → Passes d rule (expression_at k r (Lit m s))
-literal_passes d m s Sort r k low small = refl
-literal_passes d m s Time r k low small = tt
-literal_passes d m s ScaleRule r k low small = and_from _ _ (le-leb s 27 low) refl
-literal_passes d m s SizeRule r k low small = refl
-literal_passes d m s Bound r k low small =
-    let fits : nat_le (unsigned_abs m) (10 ^ 37) ≡ true = le-leb (unsigned_abs m) (10 ^ 37) small in
-    and_from _ _ fits fits
-
 -- ---- a contract by its parts
 
 pub leaf_rules : (d : Declarations) (c : Contract) → ((w : Trial) (r : List Layer) (k : ℕ) → sites_of_contract w c r k ≡ contract_at k r c ∷ []) → PassesHere d c → MeetsRules d c
@@ -153,11 +143,13 @@ both_rules d a b ha hb here rule w r k l =
     AllPass-append P (sites_of_contract w a r (k + 1)) (ys ++ node) (ha rule w r (k + 1) l)
     (AllPass-append P ys node (hb rule w r (k + 1 + nodes_of_contract a) l) (here rule r k l, tt))
 
-pub scaled_rules : (d : Declarations) (m : ℤ) (s : ℕ) (c : Contract) → s ≤ 27 → unsigned_abs m ≤ 10 ^ 37 → MeetsRules d c → PassesHere d (Scale (Lit m s) c) → MeetsRules d (Scale (Lit m s) c)
-scaled_rules d m s c low small hc here rule w r k l =
-    let ys : List Site = sites_of_contract w c r (k + 1 + 1) in
-    let node : List Site = contract_at k r (Scale (Lit m s) c) ∷ [] in
-    (literal_passes d m s rule r (k + 1) low small, AllPass-append (Passes d rule) ys node (hc rule w r (k + 1 + 1) l) (here rule r k l, tt))
+pub scaled_rules : (d : Declarations) (e : Expression) (c : Contract) → ((rule : Rule) (w : Trial) (r : List Layer) (k : ℕ) → AllPass (Passes d rule) (sites_of w e r k)) → MeetsRules d c → PassesHere d (Scale e c) → MeetsRules d (Scale e c)
+scaled_rules d e c he hc here rule w r k l =
+    let P : Site → Type 0 = Passes d rule in
+    let ys : List Site = sites_of_contract w c r (k + 1 + nodes e) in
+    let node : List Site = contract_at k r (Scale e c) ∷ [] in
+    AllPass-append P (sites_of w e r (k + 1)) (ys ++ node) (he rule w r (k + 1))
+    (AllPass-append P ys node (hc rule w r (k + 1 + nodes e) l) (here rule r k l, tt))
 
 pub delayed_rules : (d : Declarations) (n : Days) (c : Contract) → MeetsRules d c → PassesHere d (After n c) → MeetsRules d (After n c)
 delayed_rules d n c hc here rule w r k l =

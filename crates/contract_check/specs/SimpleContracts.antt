@@ -1,5 +1,5 @@
--- Simple contracts, of transfers, sums, waits and factors that are literals: what one walk measures of them. Round a
--- part stand waits, and factors that have `above` decimals together.
+-- Simple contracts, of transfers, sums, waits and simple factors: what one walk measures of them. Round a part stand
+-- waits, and factors that have `above` decimals together.
 use Rattle.std.specs.Prelude.{ℕ, ℤ, pos, ◌≤ℤ◌, ◌+◌, ◌-◌, ◌*◌, ◌^◌, ◌≤◌, min, max, ◌≡◌, ◌↔◌, true, List, [], ◌∷◌, Option, Some, None, option_map, IfSome}
 use Rattle.term_model.specs.Declarations.{Declarations}
 use Rattle.term_model.specs.declared.rules.Rule.{Rule}
@@ -14,14 +14,9 @@ use Rattle.term_model.specs.Horizons.{horizon_of}
 use Rattle.term_model.specs.Horizons as horizons
 use Rattle.term_model.specs.Sites.{Trial, Layer, Later, sites_of_contract, AllPass}
 use Rattle.term_model.specs.Acceptance.{Passes}
+use Rattle.contract_check.specs.SimpleFactors.{greatest_measured, most_past}
+use Rattle.contract_check.specs.declared.simple_factors.Factor.{Factor}
 use Rattle.contract_check.specs.declared.simple_contracts.Measure.{Measure}
-
--- the greatest total, and literal, that is measured, and the most decimals of the factors round a part
-abbrev pub greatest_measured : ℕ
-greatest_measured = 10 ^ 18
-
-abbrev pub most_decimals : ℕ
-most_decimals = 9
 
 -- How a whole is measured from its parts.
 
@@ -52,17 +47,16 @@ joined x y =
       total = x.total + y.total;
     }
 
--- a literal of this size, and of s decimals, has one node
-abbrev pub multiplied : ℕ → ℕ → Measure → Measure
-multiplied size s x =
+abbrev pub multiplied : Factor → Measure → Measure
+multiplied f x =
     record {
-      height = max x.height 1 + 1;
-      nodes = x.nodes + 2;
+      height = max f.height x.height + 1;
+      nodes = f.nodes + x.nodes + 1;
       reach = x.reach;
       start = x.start;
       horizon = x.horizon;
-      scale = s + x.scale;
-      total = x.total * size;
+      scale = f.scale + x.scale;
+      total = x.total * f.size;
     }
 
 abbrev pub delayed : ℕ → Measure → Measure
@@ -115,7 +109,7 @@ pub record IsMeasure (d : Declarations) (above : ℕ) (c : Contract) (m : Measur
   pub height : m.height ≡ height_of_contract c
   pub nodes : m.nodes ≡ nodes_of_contract c
   pub reach : m.reach ≡ reach c
-  pub past : past_of_contract c ≡ 0
+  pub past : past_of_contract c ≤ most_past
   pub work : work_of_contract c ≤ nodes_of_contract c
   pub start : StartsOn c m.start
   pub early : IsEarly m.reach m.start

@@ -7,7 +7,8 @@
 //!
 //! Promised: `check` answers the facts of an accepted contract, which is causal then, or the first
 //! rule that fails and the first node at which it does (`IsChecked`). One walk does for a contract
-//! of transfers, sums, waits and literal factors, and any other takes one for each rule.
+//! of transfers, sums, waits, and factors that are literals or rounded products of a literal and
+//! what is observed. Any other takes one for each rule.
 //! Only tested: that it answers where there is memory (rows of `library_rows`).
 #![tactic(auto)]
 
@@ -15,6 +16,7 @@ mod checks;
 mod horizons;
 mod laws;
 mod simple_contracts;
+mod simple_factors;
 
 pub use checks::{Facts, check};
 pub use horizons::horizon;

@@ -1,31 +1,25 @@
-//! Simple contracts: transfers, sums, waits, and factors that are literals. Most contracts of a
-//! book are simple, and one walk in small numbers measures all that the rules ask of one. It leaves
-//! to the rules a contract that is not simple, breaks a rule or has greater numbers. A function
-//! pays at entry for the locals of all its arms, so each form with parts has one of its own.
+//! Simple contracts: transfers, sums, waits, and simple factors. Most contracts of a book are
+//! simple, and one walk in small numbers measures all that the rules ask of one. It leaves to the
+//! rules a contract that is not simple, breaks a rule or has greater numbers. A function pays at
+//! entry for the locals of all its arms, so each form with parts has one of its own.
 
-ghost use Rattle.std.specs.Prelude.{◌≡◌, ◌≤◌, ◌+◌, ◌-◌, pos, unsigned_abs, option_map, IfSome};
+ghost use Rattle.std.specs.Prelude.{◌≡◌, ◌≤◌, ◌+◌, ◌-◌, pos, option_map, IfSome};
 ghost use Rattle.term_model.specs.Declarations.{declarations, decimals_of};
 ghost use Rattle.term_model.specs.DayCounts.{Num};
-ghost use Rattle.term_model.specs.Terms.{contract, Lit, Both, Scale, After};
+ghost use Rattle.term_model.specs.Terms.{contract, expression, Both, Scale, After};
 ghost use Rattle.term_model.specs.Limits.{most_days};
 ghost use Rattle.time_types.specs.Starts.{start_day};
 ghost use Rattle.contract_check.specs.Checks.{IsGranted};
 ghost use Rattle.contract_check.specs.SimpleContracts.{sooner, IsEarly, IsWithin, IsMeasured};
-ghost use Rattle.contract_check.specs.SimpleContracts.{most_decimals};
+ghost use Rattle.contract_check.specs.SimpleFactors.{most_decimals};
 ghost use Rattle.contract_check.specs.SimpleContracts as simple;
 
 use crate::checks::Facts;
 use crate::horizons::delayed_by;
+use crate::simple_factors::{Factor, GREATEST_TOTAL, MOST_DECIMALS, factor_of};
 use decimal::pow10;
 use term_model::{Contr, Days, Decls, Expr, MOST_DAYS, MOST_HEIGHT, MOST_NODES};
 use time_types::Start;
-
-// The greatest total, and literal, that is measured. With the decimals of the factors round it, of
-// which there are at most nine, a total is at most 10^27, as the rule on bounds asks.
-const GREATEST_TOTAL: u64 = 1_000_000_000_000_000_000;
-
-// The most decimals that the factors round a part may have together.
-const MOST_DECIMALS: u8 = 9;
 
 // What is measured of a part, its total in units of the portfolio's decimals.
 #[derive(Clone, Copy)]
@@ -115,18 +109,20 @@ fn joined(left: Measure, right: Measure) -> Measure
     }
 }
 
-// Of a part under a literal of this size.
-fn multiplied(size: u64, scale: u8, body: Measure) -> Option<Measure>
+// Of a part under a factor.
+fn multiplied(factor: Factor, body: Measure) -> Option<Measure>
+    requires few { factor.nodes ≤ 4 }
+    requires low { factor.height ≤ 3 }
     requires within { IsWithin body }
-    requires scale { scale + body.scale ≤ 12 }
-    ensures same { IfSome result (λ m. m ≡ simple.multiplied size scale body) }
+    requires scale { factor.scale + body.scale ≤ 12 }
+    ensures same { IfSome result (λ m. m ≡ simple.multiplied factor body) }
     ensures within { IfSome result (λ m. IsWithin m) }
 {
-    let total = body.total.checked_mul(size)?;
+    let total = body.total.checked_mul(factor.size)?;
     kept(Measure {
-        height: body.height.max(1) + 1,
-        nodes: body.nodes + 2,
-        scale: scale + body.scale,
+        height: factor.height.max(body.height) + 1,
+        nodes: factor.nodes + body.nodes + 1,
+        scale: factor.scale + body.scale,
         total,
         ..body
     })
@@ -173,10 +169,7 @@ fn measure_of(decls: &Decls, c: &Contr, above: u8) -> Option<Measure>
         Contr::Zero => Some(nothing()),
         Contr::Pay { asset, .. } => payment(decls, *asset, above),
         Contr::Both { left, right } => measure_both(decls, left, right, above),
-        Contr::Scale {
-            factor: Expr::Lit { mant, scale },
-            body,
-        } => measure_scaled(decls, *mant, *scale, body, above),
+        Contr::Scale { factor, body } => measure_scaled(decls, factor, body, above),
         Contr::After {
             days: Days::Num { days },
             body,
@@ -198,20 +191,20 @@ fn measure_both(decls: &Decls, left: &Contr, right: &Contr, above: u8) -> Option
     kept(joined(one, other))
 }
 
-// Of a contract under a literal.
+// Of a contract under a factor.
 #[cycle(measuring)]
-fn measure_scaled(decls: &Decls, mant: i128, scale: u8, body: &Contr, above: u8) -> Option<Measure>
+fn measure_scaled(decls: &Decls, factor: &Expr, body: &Contr, above: u8) -> Option<Measure>
     requires few { above ≤ most_decimals }
     requires within { above ≤ decls.now.amounts }
     ensures { IfSome result (λ m. IsMeasured (declarations decls.now) above
-        (Scale (Lit mant scale) (contract body.now)) m) }
+        (Scale (expression factor.now) (contract body.now)) m) }
 {
-    let size = mant.unsigned_abs();
-    if size > GREATEST_TOTAL as u128 || scale > decls.amounts.min(MOST_DECIMALS) - above {
+    let factor = factor_of(decls, factor)?;
+    if factor.scale > decls.amounts.min(MOST_DECIMALS) - above {
         return None;
     }
-    let measured = measure_of(decls, body, above + scale)?;
-    multiplied(size as u64, scale, measured)
+    let measured = measure_of(decls, body, above + factor.scale)?;
+    multiplied(factor, measured)
 }
 
 // Of a contract that stands so many days later.

@@ -1,7 +1,7 @@
-use Rattle.std.proofs.Common.{ℕ, unsigned_abs, ◌+◌, ◌≤◌, ◌-◌, ◌^◌, ◌≡◌, ap, arith, rules}
+use Rattle.std.proofs.Common.{◌+◌, ◌≤◌, ◌-◌, refl, arith}
 use Rattle.term_model.specs.Declarations.{declarations, decimals_of}
 use Rattle.term_model.specs.DayCounts.{Num}
-use Rattle.term_model.specs.Terms.{contract, Lit, Pay, Both, Scale, After}
+use Rattle.term_model.specs.Terms.{contract, expression, Pay, Both, Scale, After}
 use Rattle.contract_check.specs.SimpleContracts.{payment, joined, multiplied, delayed, IsMeasured}
 use Rattle.contract_check.proofs.HorizonFacts.{horizon_most}
 use Rattle.contract_check.proofs.SimpleFacts.{nothing_measured, payment_measured, both_measured, scaled_measured, delayed_measured, measured_kept, measured_if}
@@ -31,15 +31,13 @@ measure_both-returns t c =
 pub measure_scaled-returns : goal.measure_scaled-returns
 measure_scaled-returns t c =
     let d = declarations c.args.decls.now in
+    let e = expression c.args.factor.now in
     let b = contract c.args.body.now in
+    let f = c.in_ok-factor.factor in
     let x = c.in_ok-measured.measured in
-    let size : ℕ = unsigned_abs c.args.mant in
-    let few : c.args.above + c.args.scale ≤ 9 = omega (arith, c.if-scale-min.false, c.min.ensures, c.requires.few) in
-    let same : c.unsigned_abs-size.result ≡ size = search rules in
-    let small : size ≤ 10 ^ 18 = omega (arith, c.if-size.false, same) in
-    measured_kept (IsMeasured d c.args.above (Scale (Lit c.args.mant c.args.scale) b)) (multiplied size c.args.scale x) (multiplied c.unsigned_abs-size.result c.args.scale x) c.multiplied.result
-    (ap (λ (n : ℕ). multiplied n c.args.scale x) same) c.multiplied.ensures.same c.multiplied.ensures.within
-    (λ within. scaled_measured d c.args.above c.args.mant c.args.scale b x few small c.in_ok-measured.ensures within)
+    let few : c.args.above + f.scale ≤ 9 = omega (arith, c.if-factor-min.false, c.min.ensures, c.requires.few) in
+    measured_kept (IsMeasured d c.args.above (Scale e b)) (multiplied f x) (multiplied f x) c.multiplied.result refl c.multiplied.ensures.same c.multiplied.ensures.within
+    (λ within. scaled_measured d c.args.above e f b x few c.in_ok-factor.ensures c.in_ok-measured.ensures within)
 
 pub measure_later-delayed-requires-clause-horizon : goal.measure_later-delayed-requires-clause-horizon
 measure_later-delayed-requires-clause-horizon t c =
