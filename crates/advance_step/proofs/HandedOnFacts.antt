@@ -24,7 +24,7 @@ use Rattle.specialise.specs.Specialising.{is_known, specialised, specialised_in,
 use Rattle.specialise.proofs.SpecialRedexes.{special_leaves_none}
 use Rattle.specialise.proofs.SpecialSizes.{nothing_told}
 use Rattle.simplify.specs.Turning.{HasNoPlain, is_plain_redex, rule, resolved, choice, is_chosen, turned}
-use Rattle.simplify.specs.TurningContracts.{HasNoPlainIn, is_contract_redex, is_later, is_nothing, made, rule_in, turned_in}
+use Rattle.simplify.specs.TurningContracts.{HasNoPlainIn, is_later, is_nothing, rule_in, turned_in}
 use Rattle.simplify.proofs.SimplifyingFacts.{literals_fit}
 use Rattle.advance_step.specs.Advancing.{IsResidual}
 use Rattle.advance_step.specs.CarryingWalk.{IsLeftEverywhere}

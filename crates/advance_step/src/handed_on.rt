@@ -109,8 +109,7 @@ pub fn is_handed_on(known: &Known, scratch: &Scratch, span: Span, c: &Contr) -> 
     stays_behind(known.fixings, span, c) && are_false_on(known, scratch, span, c)
 }
 
-/// What is left of it after `last + 1` days.
-#[cycle(handing)]
+/// What is left of a contract that is handed on, after `last + 1` days.
 pub fn handed_on(alloc: Global, c: Contr, last: u32) -> Result<Contr, NoMemory>
     ensures { IfOk result (λ r. contract r ≡ handed (contract c) last) }
 {

@@ -2,11 +2,11 @@
 //! taken: no part reduces, and nothing that is read on a known day is fixed.
 
 ghost use Rattle.std.specs.Prelude.{◌≡◌, ◌+ℤ◌, ◌||◌, pos, true, false, Some, None};
+ghost use Rattle.term_model.specs.DayCounts.{Num as Count};
 ghost use Rattle.term_model.specs.Terms.{contract, expression, Acc, Within};
 ghost use Rattle.term_model.specs.Redexes.{is_literal, is_zero_literal};
 ghost use Rattle.simplify.specs.TurningContracts.{is_nothing};
 ghost use Rattle.advance_step.specs.HandedOn.{IsSettled, Stays, lacks};
-ghost use Rattle.term_model.specs.DayCounts.{Num as Count};
 
 use crate::simple_contracts::is_later;
 use fixing_files::Fixings;
