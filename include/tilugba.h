@@ -66,8 +66,8 @@ struct tilugba_file {
  *
  * The answer is the exit status of the program: 0 to 3 and 5 to 12. It is 9 where memory does not
  * suffice, 13 where a word is not UTF-8, and never 4. `*text_size` is the length of the whole text,
- * which stands at the front of the room if it fits there; if not, the room is as it was. With 13
- * and with 9 for want of memory for the text there is no text.
+ * which stands at the front of the room if it fits there; if not, the room is as it was. There is
+ * no text with 13, nor with 9 where memory does not suffice for the words or for the text.
  */
 uint32_t tilugba_run(const struct tilugba_bytes *words, size_t word_count,
                      const struct tilugba_file *files, size_t file_count,

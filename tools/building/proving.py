@@ -154,17 +154,6 @@ def prove_until_settled(top: Path, at_once: int, most: int) -> None:
         say("the sources have changed meanwhile, so once more")
 
 
-def take_kept(tools: Toolchain, top: Path) -> None:
-    """Takes the program that a gate on this machine has proved of the texts as they are; raises NotKept where there is none."""
-    while True:
-        sources = Sources(top)
-        before = sources.sum()
-        with kept.copy_over_kept(tools, top, CRATE) as copy:
-            if Sources(copy).sum() == before:
-                replace_program(copy / kept.PROGRAM, sources, before)
-                return
-
-
 def build(top: Path, at_once: int, most: int) -> None:
     """Sees to it that built/tilugba is the program of the texts. The program that was there stays if that fails."""
     if not why_not_taken(top):
@@ -190,7 +179,7 @@ def why_not_taken(top: Path) -> str | None:
     tools = toolchain.at_hand(top)
     (top / BUILT).mkdir(exist_ok=True)
     with contextlib.chdir(top):
-        while not is_there(top):
+        while True:
             sources = Sources(top)
             before = sources.sum()
             try:
@@ -199,4 +188,7 @@ def why_not_taken(top: Path) -> str | None:
                         replace_program(copy / kept.PROGRAM, sources, before)
             except kept.NotKept as why:
                 return str(why)
-    return None
+            # (texts that changed meanwhile are taken once more)
+            if Sources(top).sum() == before:
+                Sources(top).look()
+                return None
