@@ -33,6 +33,7 @@ abbrev pub is_open : Environment → Option ℤ → Expression → ℕ → Expre
 is_open F None body n first = true
 is_open F (Some f) body n first = lacks F (f -ℤ pos n) first || lacks F ((f -ℤ pos n) +ℤ pos 1) body
 
+-- no part is a redex, what is observed on a known frame is not fixed there, and each accumulator is open
 abbrev pub IsSettled : Environment → Option ℤ → Expression → Type 0
 IsSettled F o (Lit m s) = Unit {0}
 IsSettled F o (Yes b) = Unit {0}
@@ -72,7 +73,8 @@ Either false A B = B
 abbrev pub IsFalseUpTo : Declarations → Expression → Environment → ℤ → ℕ → Type 0
 IsFalseUpTo d e F f n = (env : Environment) → Extends F env → first_true d e [] env f n ≡ None
 
--- of a contract that stands on day f: what stands on the j days from there is gone then, and what stands later stays
+-- of a contract that stands on day f: what stands on that day and the j days behind it is gone then, and what stands later
+-- stays
 abbrev pub StaysBehind : Environment → Contract → ℤ → ℕ → Type 0
 StaysBehind F Zero f j = Unit {0}
 StaysBehind F (Pay a p q) f j = Unit {0}

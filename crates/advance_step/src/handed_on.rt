@@ -5,7 +5,8 @@
 ghost use Rattle.std.specs.Prelude.{◌≡◌, true, min, IfOk, []};
 ghost use Rattle.term_model.specs.Terms.{contract, expression};
 ghost use Rattle.expr_eval.specs.Evaluable.{MayEvaluate, MayEvaluateIn};
-ghost use Rattle.advance_step.specs.HandedOn.{AreFalseOn, IsFalseUpTo, IsHandedOn, StaysBehind, handed};
+ghost use Rattle.advance_step.specs.HandedOn.{AreFalseOn, IsFalseUpTo, IsHandedOn, StaysBehind};
+ghost use Rattle.advance_step.specs.HandedOn.{handed};
 
 use crate::gone::is_gone;
 use crate::questions::first_day;
@@ -18,7 +19,8 @@ use fixing_files::{Fixings, Known};
 use std::alloc::Global;
 use term_model::{Contr, Days, Expr};
 
-// Whether what stands behind the days of a span stays as it is, and what stands on them is gone then.
+// Whether what stands behind the days of a span stays as it is, and what stands on them is gone
+// then.
 fn stays_behind(fixings: &Fixings, span: Span, c: &Contr) -> bool
     ensures { result ≡ true → StaysBehind fixings.now (contract c.now) span.day span.last }
 {

@@ -146,6 +146,7 @@ pub fn rest_of(
         }
         let scratch = Scratch::with_room(alloc, 0)?;
         let span = gone.span();
+        // (of what is gone nothing is handed on, so its tests are not tried)
         if !is_gone(&c, gone.days) && is_handed_on(&Known { decls, fixings }, &scratch, span, &c) {
             return Ok(handed_on(alloc, c, span.last)?);
         }

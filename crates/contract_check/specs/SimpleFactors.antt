@@ -23,7 +23,7 @@ greatest_measured = 10 ^ 18
 abbrev pub most_decimals : ℕ
 most_decimals = 9
 
--- the most days before its own on which a factor is observed
+-- how many days before its own a factor may be observed
 abbrev pub most_past : ℕ
 most_past = 900_000
 

@@ -6,10 +6,11 @@
 //! ```
 //!
 //! Promised: `check` answers the facts of an accepted contract, which is causal then, or the first
-//! rule that fails and the first node at which it does (`IsChecked`). One walk does for a contract
-//! of transfers, sums, waits, and factors that are literals or rounded products of a literal and
-//! what is observed. Any other takes one for each rule.
-//! Only tested: that it answers where there is memory (rows of `library_rows`).
+//! rule that fails and the first node at which it does (`IsChecked`).
+//! Only tested: that it answers where there is memory (rows of `library_rows`). Only measured: that
+//! one walk does for a contract that meets the rules by small numbers and is made of transfers,
+//! sums, waits, and factors that are literals or rounded products of what is observed and a literal
+//! (`simple_contracts`), where any other takes a walk for each rule.
 #![tactic(auto)]
 
 mod checks;

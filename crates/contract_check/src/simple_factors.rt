@@ -18,11 +18,12 @@ pub const GREATEST_TOTAL: u64 = 1_000_000_000_000_000_000;
 /// The most decimals that the factors round a part may have together.
 pub const MOST_DECIMALS: u8 = 9;
 
-// The most days before its own on which a factor is observed. With a reach of 100,000 they are
+// How many days before its own a factor may be observed. With a reach of 100,000 these are
 // 1,000,000 at most, as the rule on sizes asks.
 const MOST_PAST: i32 = 900_000;
 
-/// What is measured of a factor: its greatest size in units of its own decimals.
+/// What is measured of a factor: its height, its nodes, its decimals, and its greatest size in units
+/// of these.
 #[derive(Clone, Copy)]
 pub struct Factor {
     pub height: u32,

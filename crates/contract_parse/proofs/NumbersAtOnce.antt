@@ -1,4 +1,4 @@
--- Numbers that stand at once in a text: digits, and perhaps a point and digits behind it.
+-- Numbers that begin a text: digits, and perhaps a point and digits behind it.
 use Rattle.std.proofs.Common.{to_z, w32, ◌≡◌, ◌≢◌, ℕ, suc, ◌+◌, ◌*◌, ◌-◌, ◌≤◌, ◌<◌, ◌^◌, Bool, true, false, cond, ◌&&◌, List, [], ◌∷◌, ◌++◌, Some, Result, Ok, Err, length, take, drop, refl, sym, ap, subst, ◌∙◌, inl, inr, arith, append_assoc}
 use Rattle.std.specs.Prelude.{◌==◌, codes, ℤ, pos, nat_le, nat_lt, not}
 use Rattle.std.specs.List.{prefix_len, list_all}
@@ -179,7 +179,7 @@ module _ (most : ℕ) (w : List ℕ) (left : ℕ) where
 no_point_next : (c : ℕ) → is_digit c ≡ false → (not (c == 45) && not (c == 46)) ≡ true → Ends [] c
 no_point_next c stop more = (stop, λ e. grind (arith, nat_tests), grind (arith, nat_tests))
 
--- a number without a point that stands at once
+-- a number without a point that begins a text
 pub integer_valued : (most n : ℕ) (start after : List ℕ) → n ≡ number_written 0 start → after ≡ after_digits start → length after < length start → n ≤ most
     → ends_integer after ≡ true → valued (integer_at most) n (tokens start) (tokens after)
 integer_valued most n start [] is rest some low more = absurd (false≢true more)
@@ -222,7 +222,7 @@ decimal_is w ds n numeral digits is low short =
 wide : (n : ℕ) → n ≤ 10 ^ 19 → to_z w128 n ≡ pos n
 wide n low = to_z_pos w128 n (omega (arith, low))
 
--- a literal that stands at once, of these digits
+-- a literal that begins a text, of these digits
 literal_here : (w ds : List ℕ) (c : ℕ) (cs start : List ℕ) (n k : ℕ) → IsNumeral 10 w → AllDigits 10 ds → Ends ds c → start ≡ (w ++ after_point ds) ++ c ∷ cs
     → n ≡ number_after (number_after 0 w) ds → n ≤ 10 ^ 19 → k ≡ length ds → k ≤ 27
     → valued (literal_at false) (record { mant = to_z w128 n; scale = k }) (tokens start) (tokens (c ∷ cs))

@@ -1,4 +1,4 @@
--- Words that stand at once in a text, and what is left of a text behind a gap.
+-- Words that begin a text, and what is left of a text behind a gap.
 use Rattle.std.proofs.Common.{◌≡◌, ℕ, suc, ◌≤◌, ◌<◌, Bool, true, false, cond, ◌&&◌, List, [], ◌∷◌, ◌++◌, length, take, drop, refl, sym, ap, ◌∙◌, inl, inr, arith}
 use Rattle.std.specs.Prelude.{◌==◌, nat_lt, not, get_or}
 use Rattle.std.specs.List.{prefix_len, list_all}

@@ -1,4 +1,4 @@
--- What stands at once in a text, so that it is known without a token.
+-- What begins a text, so that it is known without a token.
 use Rattle.std.specs.Prelude.{◌≡◌, ℕ, ◌+◌, ◌*◌, ◌-◌, ◌==◌, ◌&&◌, Bool, false, not, List, [], ◌∷◌, codes, length, if◌then◌else◌}
 use Rattle.contract_grammar.specs.Tokens.{Tok, is_digit, tokens}
 use Rattle.contract_grammar.specs.Words.{Bytes}
@@ -9,7 +9,7 @@ use Rattle.contract_parse.specs.Heads.{leaf_word}
 use Rattle.contract_parse.specs.declared.heads.First.{First}
 use Rattle.contract_parse.specs.declared.heads.Head.{Head}
 
--- this word stands at once in a text, with that text behind it
+-- this word begins a text, with that text behind it
 abbrev pub word_here : Bytes → List ℕ → List ℕ → Type 0
 word_here w start after = tokens start ≡ record { kind = Word; text = w; left = length start } ∷ tokens after
 
@@ -59,7 +59,7 @@ form_kind First.Acc = Word
 abbrev pub form_token : Language → First → ℕ → Tok
 form_token l first left = record { kind = form_kind first; text = form_text l first; left = left }
 
--- it stands at once in a text, with that text behind it
+-- it begins a text, with that text behind it
 abbrev pub form_here : Language → First → List ℕ → List ℕ → Type 0
 form_here l first start after = tokens start ≡ form_token l first (length start) ∷ tokens after
 

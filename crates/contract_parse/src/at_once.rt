@@ -1,6 +1,7 @@
-//! Numbers and modes that stand at once in a text, and need no token. Whatever is odd is
+//! Numbers and modes that begin a text, and need no token. Whatever is odd is
 //! left to the readers of tokens.
-ghost use Rattle.std.specs.Prelude.{◌≡◌, ◌≤◌, ◌<◌, ◌+◌, ◌^◌, ◌∷◌, ℕ, List, IfSome, false, length, suc};
+ghost use Rattle.std.specs.Prelude.{◌≡◌, ◌≤◌, ◌<◌, ◌+◌, ◌^◌, ◌∷◌};
+ghost use Rattle.std.specs.Prelude.{ℕ, List, IfSome, false, length, suc};
 ghost use Rattle.contract_grammar.specs.Tokens.{tokens};
 ghost use Rattle.contract_grammar.specs.Judgements.{integer_at, literal_at, mode_at};
 ghost use Rattle.contract_grammar.specs.Spelling.{valued};

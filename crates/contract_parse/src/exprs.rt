@@ -530,7 +530,7 @@ fn read_name<'a>(
     }
 }
 
-// The same of any token, or the fault of one that begins none.
+// An expression that begins with any token, or the fault of one that begins none.
 #[cycle(expr)]
 #[inline(never)]
 fn read_any_expr<'a, L: LeafReader>(
@@ -574,7 +574,7 @@ fn read_any_expr<'a, L: LeafReader>(
 }
 
 /// An expression that stands in a frame, and the text after it. Its word or its parenthesis mostly
-/// stands at once, so that is looked at first.
+/// begins the text, so that is looked at first.
 #[cycle(expr)]
 pub fn read_expr<'a, L: LeafReader>(
     alloc: Global,

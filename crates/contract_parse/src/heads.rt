@@ -147,7 +147,7 @@ pub fn form_at(language: Language, token: &Lexeme<'_>) -> Option<First>
     }
 }
 
-/// One of the usual words of expressions, or a parenthesis, that stands at once in a text, and the
+/// One of the usual words of expressions, or a parenthesis, that begins a text, and the
 /// text after it.
 #[inline(always)]
 pub fn first_here(language: Language, start: &[u8]) -> Option<(First, &[u8])>
@@ -187,7 +187,7 @@ fn head_of(token: &Lexeme<'_>) -> Result<Head, TextKind>
     }
 }
 
-/// The word of a contract that stands at once in a text, and the text after it.
+/// The word of a contract that begins a text, and the text after it.
 #[inline(always)]
 pub fn head_here(start: &[u8]) -> Option<(Head, &[u8])>
     ensures found { IfSome result (λ r. word_here (head_word r.0) start.now r.1.now) }

@@ -39,8 +39,8 @@ pub fn from_token(rest: &[u8]) -> &[u8]
     after_gap(rest)
 }
 
-/// The text after a word that stands at once in the text, and that no other byte prolongs. The
-/// usual words are found so, and need no token.
+/// The text after a word that begins the text, and that no other byte prolongs. The usual words
+/// are found so, and need no token.
 #[inline(always)]
 pub fn after_the_word<'a>(start: &'a [u8], word: &[u8]) -> Option<&'a [u8]>
     requires { is_word_text word.now ≡ true }
@@ -58,7 +58,7 @@ pub fn after_the_word<'a>(start: &'a [u8], word: &[u8]) -> Option<&'a [u8]>
     }
 }
 
-/// The same, as one value that a reader may hand on.
+/// The next token and the text after it, as one value that a reader may hand on.
 pub fn look(rest: &[u8]) -> Lookahead<'_>
     ensures same { tokens_ahead result ≡ tokens rest.now }
     ensures within { length result.after.now ≤ length rest.now }
@@ -74,7 +74,7 @@ fn is_whole_mark(b: u8) -> bool
     matches!(b, b'(' | b')' | b',' | b';')
 }
 
-/// The text after a mark of one byte that stands at once in the text, and that no other byte
+/// The text after a mark of one byte that begins the text, and that no other byte
 /// prolongs. Most marks are found so, and need no token.
 pub fn after_byte<'a>(rest: &'a [u8], wanted: &[u8]) -> Option<&'a [u8]>
     ensures found { IfSome result (λ r. tokens rest.now
@@ -88,8 +88,8 @@ pub fn after_byte<'a>(rest: &'a [u8], wanted: &[u8]) -> Option<&'a [u8]>
     }
 }
 
-/// Whether a mark of one byte that is not the wanted one stands at once in the text, and no other
-/// byte prolongs it.
+/// Whether a mark of one byte that is not the wanted one begins the text, and no other byte
+/// prolongs it.
 pub fn begins_with_other(rest: &[u8], wanted: &[u8]) -> bool
     ensures { result ≡ true → LacksMark wanted.now (tokens rest.now) }
 {

@@ -14,8 +14,8 @@ use row_language::{Answer, say};
 use std::alloc::Global;
 use term_model::{Contr, Decls, Missing, Value};
 
-// What the factor of the innermost `scale` answers on a day on which each `let` round it was
-// evaluated and entered; nothing, where none stands there.
+// What the factor of the first `scale` behind the names that are bound round it answers on a day
+// on which each of them was evaluated and entered; nothing, where none stands there.
 fn factor_of(
     decls: &Decls,
     c: &Contr,
@@ -44,8 +44,8 @@ fn factor_of(
     }
 }
 
-/// Appends the value of the factor of the innermost `scale` of a contract, or the first place that
-/// is not fixed; or that it has none behind its names.
+/// Appends the value of the factor of the first `scale` of a contract behind its names, or the first
+/// place that is not fixed; or that it has none there.
 pub fn evaluated(
     alloc: Global,
     decls: &Decls,

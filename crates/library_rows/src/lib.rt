@@ -28,8 +28,8 @@
 //! - `counts|BOOK`: the height, and the number of nodes
 //! - `rename|BOOK`: the contract with the second party in the place of the first
 //! - `simplify|BOOK`: the contract without the redexes that ask for no day
-//! - `eval|BOOK|TABLE|DAY`: the value of the factor of the innermost `scale`, or the first place
-//!   that is not fixed; or that there is none behind the names
+//! - `eval|BOOK|TABLE|DAY`: the value of the factor of the first `scale` behind the names that are
+//!   bound round it, or the first place that is not fixed; or that there is none
 //! - `specialise_contr|BOOK|TABLE|DAY`: the contract with what is fixed told
 //! - `specialise_expr|BOOK|TABLE|DAY`: the expression that it binds or tests, with what is fixed
 //!   told; `specialise_unknown` has no day, whatever stands for it
