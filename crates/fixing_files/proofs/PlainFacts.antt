@@ -13,9 +13,9 @@ use Rattle.term_model.specs.Declarations.{Declarations}
 use Rattle.term_model.specs.Environments.{label_of}
 use Rattle.term_model.specs.Limits.{is_label}
 use Rattle.term_model.specs.declared.label.Label.{Label}
-use Rattle.term_model.specs.declared.label.Label.TheVariants.{Number, Flag}
+use Rattle.term_model.specs.declared.label.Label.TheVariants.{Number}
 use Rattle.term_model.specs.declared.values.Value.{Value}
-use Rattle.term_model.specs.declared.values.Value.TheVariants.{Num as Amount, Truth}
+use Rattle.term_model.specs.declared.values.Value.TheVariants.{Num as Amount}
 use Rattle.fixing_files.specs.PlainRows.{BeginsWithLabel, BeginsWithLast, BeginsWithRow, BeginsWithValue, EndsLine, HasPlainNames, rows_of}
 use Rattle.fixing_files.specs.Records.{Fields, day_said, header, placed, said, said_at, value_said, within_bounds}
 use Rattle.fixing_files.specs.Tables.{Table}
@@ -215,12 +215,6 @@ number_begins scale low high m text behind rest h ends above below =
       bare = h.bare;
       said = ap (within_bounds low high) h.mantissa ∙ inside;
     }
-
-pub true_begins : (text rest : List ℕ) → BeginsWithLast text (codes "true") rest → BeginsWithValue Flag text (Truth true) rest
-true_begins text rest h = record { word = codes "true"; last = h; bare = record { needs_none = refl }; said = refl }
-
-pub false_begins : (text rest : List ℕ) → BeginsWithLast text (codes "false") rest → BeginsWithValue Flag text (Truth false) rest
-false_begins text rest h = record { word = codes "false"; last = h; bare = record { needs_none = refl }; said = refl }
 
 -- the mark of a line
 

@@ -90,9 +90,6 @@ pub record FillsFront (entries : List (Spot × Mention)) (common : List SetRow) 
   pub common_is : (r : SetRow) → Contains common r ↔ IsGiven entries Each r
   pub own_is : (i : ℕ) (r : SetRow) → Contains (rows_at each i) r ↔ IsGiven entries (Of i) r
 
-no_element : (r : SetRow) → ¬ (Contains [] r)
-no_element r h = omega (arith, h.1)
-
 module _ (entries : List (Spot × Mention)) (e : Spot × Mention) where
   given_old : (g : Group) (r : SetRow) → IsGiven entries g r → IsGiven (entries ++ e ∷ []) g r
   given_old g r h = record { entry = h.entry; among = Contains-append_left entries (e ∷ []) h.entry h.among; group = h.group; row = h.row }
