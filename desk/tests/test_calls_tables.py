@@ -183,7 +183,7 @@ class Calls(Room):
             self.assertEqual(caught.exception.kind, "value")
 
 
-@unittest.skipUnless(pandas, "pandas is not installed, so frames are not tried")
+@unittest.skipUnless(pandas, "frames, since pandas is not installed")
 class Frames(unittest.TestCase):
     """DataFrames of pandas."""
 

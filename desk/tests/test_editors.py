@@ -49,7 +49,7 @@ class Editors(Room):
         )
         return ran.stdout + ran.stderr
 
-    @unittest.skipUnless(shutil.which("nvim"), "Neovim is not installed")
+    @unittest.skipUnless(shutil.which("nvim"), "Neovim, which is not installed")
     def test_neovim(self) -> None:
         path = self.file("book.txt", BOOK)
         lua = DESK / "tests" / "neovim.lua"
@@ -71,7 +71,7 @@ class Editors(Room):
             lines[5].startswith("fault 7 21 weekend c pays on 2026-01-10, a Saturday"), said
         )
 
-    @unittest.skipUnless(shutil.which("vim"), "Vim is not installed")
+    @unittest.skipUnless(shutil.which("vim"), "Vim, which is not installed")
     def test_vim(self) -> None:
         self.file("book.txt", BOOK)
         script = self.file(
@@ -88,7 +88,7 @@ class Editors(Room):
         self.assertEqual([(it["lnum"], it["col"]) for it in found], [(5, 12)], found)
         self.assertTrue(found[0]["text"].startswith("syntax"))
 
-    @unittest.skipUnless(shutil.which("emacs"), "Emacs is not installed")
+    @unittest.skipUnless(shutil.which("emacs"), "Emacs, which is not installed")
     def test_emacs(self) -> None:
         self.file("book.txt", BOOK)
         script = """(progn (add-to-list 'load-path "%s") (require 'tilugba-mode) (find-file "book.txt") (princ major-mode)
@@ -116,7 +116,7 @@ class Matched(Room):
     the engine that VS Code runs on.
     """
 
-    @unittest.skipUnless(shutil.which("node"), "node is not installed")
+    @unittest.skipUnless(shutil.which("node"), "the tasks of VS Code, since node is not installed")
     def test_the_tasks_of_vscode(self) -> None:
         pattern = json.loads((VSCODE / "package.json").read_text())["contributes"][
             "problemMatchers"

@@ -206,7 +206,9 @@ class Reports(Room):
         )
         self.assertGreater(len(told), 5)
 
-    @unittest.skipUnless(shutil.which("chromium"), "chromium is not installed")
+    @unittest.skipUnless(
+        shutil.which("chromium"), "a report in a browser, since Chromium is not installed"
+    )
     def test_in_a_browser(self) -> None:
         """A browser reads the page, keeps its parts, and prints it. It finds no host: none is
         asked.
