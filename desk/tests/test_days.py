@@ -77,6 +77,8 @@ class Calendars(Room):
         self.assertEqual(
             sorted(map(date_text, read_holidays(path))), ["2026-01-01", "2026-04-03", "2026-04-06"]
         )
+        marked = self.file("marked.txt", "\ufeff2026-01-01\r\n")
+        self.assertEqual(sorted(map(date_text, read_holidays(marked))), ["2026-01-01"])
         with self.assertRaisesRegex(Stop, "line 1 does not begin with a date"):
             read_holidays(self.file("bad.txt", "1 January 2026\n"))
         with self.assertRaisesRegex(Stop, "No such file"):
