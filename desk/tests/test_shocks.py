@@ -219,6 +219,15 @@ class Refused(Sets):
         ran = self.run_it("--label", "FX", "--by=five")
         self.assertEqual((ran.status, "five is no step" in ran.errors), (2, True))
 
+    def test_the_longest_name(self) -> None:
+        """A name has at most 64 letters, as those of the program."""
+        label = "F" * 40
+        self.file("book.txt", BOOK.replace("FX", label))
+        self.file("fix.csv", "label,day,value\n" + ROWS.replace("FX", label))
+        lines = self.made("--label", label, f"--by=0.{'0' * 17}1%")
+        self.assertEqual(max(len(line.split(",")[0]) for line in lines[1:]), 64)
+        self.refused(2, "longer than a name may be", "--label", label, f"--by=0.{'0' * 18}1%")
+
     def test_labels(self) -> None:
         self.refused(10, "there is no label GX; labels: FX, R", "--label", "GX", "--by=1%")
         self.refused(10, "F is a flag, and only numbers are moved", "--label", "F", "--by=1%")
