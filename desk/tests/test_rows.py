@@ -61,6 +61,7 @@ class Rows(Room):
             (",,1000,31,360,floor,0.05,,", "div(floor, 2, ((0.05 * 1000) * 31), 360)"),
             ("Rate,8,1000.00,1,4,ceil,,,", "div(ceil, 2, ((obs(Rate, -12) * 1000.00) * 1), 4)"),
             ("Rate,20,-9,1,4,ceil,,,", "div(ceil, 2, ((obs(Rate, 0) * -9) * 1), 4)"),
+            ("Rate,-899980,9,1,4,ceil,,,", "div(ceil, 2, ((obs(Rate, -900000) * 9) * 1), 4)"),
             ("Rate,2026-01-01,9,1,4,ceil,-0.01,0.02,0.03",
              "div(ceil, 2, (((min(0.03, max(0.02, obs(Rate, -24))) + -0.01) * 9) * 1), 4)"),
         ]:  # fmt: skip
@@ -131,6 +132,10 @@ class Rows(Room):
                 "fixing date: it is after the payment, which is on",
             ),
             (coupon.replace("Rate,8", "Rate,"), "fixing date: it is missing"),
+            (
+                coupon.replace("Rate,8", "Rate,-899981"),
+                "fixing date: it is too long before the payment",
+            ),
             (coupon.replace("0.01,0.02", "0.03,0.02"), "floor: 0.03 is above the cap 0.02"),
             (coupon.replace(",1,4,", ",1.5,4,"), "numerator: '1.5' is no whole number from 0 on"),
             (coupon.replace(",1,4,", ",1,0,"), "denominator: '0' is no whole number from 1 on"),
