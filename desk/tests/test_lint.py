@@ -87,6 +87,13 @@ class Lint(Room):
             HEAD + "contract c = if (obs(FX, 0) > 1) within 30 then pay(EUR, A, B) else zero;"
         )
         self.assertEqual(ran.output, "")
+        # Also those of which the first is closed.
+        ran = self.lint(
+            HEAD
+            + "contract c = after(5, "
+            + "if (obs(FX, 0) > 1) within 30 then pay(EUR, A, B) else zero);"
+        )
+        self.assertEqual(ran.output, "")
         bare = (
             HEAD.replace("origin 2026-01-05;\n", "")
             + USES
@@ -125,6 +132,18 @@ class Lint(Room):
         ]:
             with self.subTest(rows=rows):
                 self.assertIn(said, self.lint(text, rows).output)
+        # Bounds a hundred times as far out as the table are told, and nearer ones are not.
+        self.assertIn("bounds: FX may be", self.lint(wide + USES, "FX,0,5\n").output)
+        self.assertEqual(self.lint(wide + USES, "FX,0,5.0001\n").output, "")
+
+    def test_a_label_is_told_once(self) -> None:
+        ran = self.lint(HEAD + "flag F;\n" + USES, "FX,0,1.1\nF,0,true\nF,1,true\n")
+        self.assertEqual(ran.output.count("unread"), 1, ran.output)
+
+    def test_a_day_is_far_from_those_of_all_contracts(self) -> None:
+        later = "contract later = after(20000, " + USES.partition("= ")[2].replace(";", ");")
+        ran = self.lint(HEAD + USES + later, "FX,0,1.1\nFX,20000,1.1\n")
+        self.assertNotIn("far from all days", ran.output)
 
     def test_faults_are_told_as_by_explain(self) -> None:
         ran = self.lint(HEAD + "contract c = ;")

@@ -192,6 +192,24 @@ class Verified(Receipts):
         said = f"it prints something else: line 1 of the file is {was}, and now it is {now}"
         self.assertEqual((status, lines[0]), (1, f"receipt 2: tilugba flows 1.txt fix.csv: {said}"))
 
+    def test_a_status_that_the_program_does_not_end_with(self) -> None:
+        self.night("0.txt")
+        it = self.told("out/.night-run/receipts.jsonl")[0]
+        it["output"]["name"] = None
+        for changes, said in [
+            ({}, None),
+            ({"status": 1}, "the status is 0, and was 1"),
+            ({"output": None}, "nothing is known of what it printed"),
+        ]:
+            with self.subTest(said=said):
+                self.file("other.jsonl", json.dumps(it | changes) + "\n")
+                status, lines = self.verify("other.jsonl", "--again")
+                wanted = ["1 stands, 0 do not"]
+                if said:
+                    told = f"receipt 1: tilugba flows 0.txt fix.csv: {said}"
+                    wanted = [told, "0 stand, 1 does not"]
+                self.assertEqual((status, lines), (1 if said else 0, wanted))
+
     def test_another_folder_and_another_program(self) -> None:
         self.night("0.txt")
         other = self.script("other", f'#!/bin/sh\nexec {the_program().path} "$@"\n')
@@ -217,6 +235,12 @@ class Verified(Receipts):
             ran = run_desk("verify", self.file("bad.jsonl", text))
             self.assertEqual((ran.status, ran.output), (7, ""), text)
             self.assertIn("bad.jsonl: line 1 is no receipt of this release", ran.errors)
+        self.night("0.txt")
+        it = self.told("out/.night-run/receipts.jsonl")[0]
+        self.assertEqual(self.verify(str(self.file("good.jsonl", json.dumps(it))))[0], 0)
+        for changes in {"form": 2}, {"by": "another"}, {"time": 5}:
+            bad = self.file("bad.jsonl", json.dumps(it | changes))
+            self.assertEqual(run_desk("verify", bad).status, 7, changes)
 
     def test_a_receipt_cannot_make_the_desk_write(self) -> None:
         self.night("0.txt")
@@ -301,6 +325,9 @@ class Others(Receipts):
         words = str(self.folder / "r.jsonl"), "--again", "--folder", str(self.folder)
         self.assertEqual(self.verify(*words), (0, ["1 stands, 0 do not"]))
         os.chdir(self.folder)
+        self.file("other.jsonl", json.dumps(told | {"desk": "0" * 64}) + "\n")
+        line = self.verify("other.jsonl", "--again", "--all")[1][0]
+        self.assertTrue(line.endswith(": stands, by another desk"), line)
         self.spoil("h.csv", "-124.0", "-142.0")
         self.assertIn(
             "h.csv: 4 of 5 lines are what receipts make; line 2 is not",
