@@ -43,6 +43,7 @@ class Dated(Room):
         test = "(obs(FX, {}) > 1)"
         for written, wanted in [
             (f"after(2026-01-09, {PAY})", f"after(0, {PAY})"),
+            (f"after(2299-10-25, {PAY})", f"after(100000, {PAY})"),
             (f"after(2026-06-30, after(2026-07-02, {PAY}))", f"after(172, after(2, {PAY}))"),
             (f"after(10, after(2026-01-31, {PAY}))", f"after(10, after(12, {PAY}))"),
             (f"scale(obs(FX, 2026-01-05), {PAY})", f"scale(obs(FX, -4), {PAY})"),
@@ -144,7 +145,7 @@ class Dated(Room):
                 f"if {test} within T then zero else after(2026-06-30, zero)",
                 "no date may be behind a delay by a template",
             ),
-            (f"after(2399-06-30, {PAY})", "2399-06-30 is more than 100,000 days after 2026-01-09"),
+            (f"after(2299-10-26, {PAY})", "2299-10-26 is more than 100,000 days after 2026-01-09"),
         ]:
             with self.subTest(said=said):
                 line = f"contract c = {written};"

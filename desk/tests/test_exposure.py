@@ -13,6 +13,7 @@ from tests.member import Member
 from tests.support import Ran, Room, run_desk, the_program
 from tilugba.engines import Runs
 from tilugba.exposures.held import ordered
+from tilugba.exposures.positive import peak
 from tilugba.exposures.sets import Scenarios
 from tilugba.histories.deals import read_book
 
@@ -240,6 +241,10 @@ class Sets(Room):
                 self.assertEqual(len(those), 7)
                 self.assertEqual(Decimal(expected), max(Decimal(it[3]) for it in those))
                 self.assertEqual(Decimal(greatest), max(Decimal(it[4]) for it in those))
+
+    def test_of_equal_peaks_the_first_counts(self) -> None:
+        self.assertEqual(peak((1, 5, 0), (2, 5, 1)), (2, 5, 0))
+        self.assertEqual(peak((2, 5, 0), (1, 6, 1)), (2, 6, 1))
 
     def test_faults(self) -> None:
         book = (
