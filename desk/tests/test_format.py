@@ -166,7 +166,9 @@ class Command(Room):
         self.assertIn("book.txt:1:28: syntax", ran.errors)
         self.assertEqual(path.read_text(), "portfolio 1;amounts 2;party;")
 
-    @unittest.skipIf(os.geteuid() == 0, "a folder that may not be written, since root may write everywhere")
+    @unittest.skipIf(
+        os.geteuid() == 0, "a folder that may not be written, since root may write everywhere"
+    )
     def test_a_folder_that_may_not_be_written(self) -> None:
         path = self.file("book.txt", TEXT)
         self.folder.chmod(0o500)
