@@ -102,6 +102,7 @@ class Tables(unittest.TestCase):
         cases += [
             ("ceil", 0.121, "0.13"),
             ("half_away", 0.285, "0.28"),
+            ("half_away", 1e300, f"{int(1e300)}.00"),
             ("half_even", 1e20, "100000000000000000000.00"),
         ]
         for mode, value, written in cases:
@@ -140,6 +141,8 @@ class Tables(unittest.TestCase):
         self.wrong(1, "day", "a day is a date", ("FX", True, 1))
         self.wrong(1, "day", "a day is a date", ("FX", 1.0, 1))
         self.wrong(1, "day", "no time", ("FX", datetime.datetime(2026, 1, 7, 12), 1))
+        zoned = datetime.datetime(2026, 1, 7, tzinfo=datetime.timezone.utc)
+        self.wrong(1, "day", "no time zone", ("FX", zoned, 1))
 
     def test_what_is_no_table(self) -> None:
         for table in ([("FX", 0)], [{"label": "FX", "day": 0}], 5, {"FX": 1}, [{"FX": 1}]):

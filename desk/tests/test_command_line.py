@@ -115,6 +115,7 @@ class Words(unittest.TestCase):
             (["advance", "book", "fix"], "--to is missing"),
             (["value", "code", "fix", "curve", *between], "--asset is missing"),
             (["value", "code", "fix", "curve", "T=x", *between], "T=x is not T=N"),
+            (["value", "code", "fix", "curve", "T=100001", *between], "T=100001 is not T=N"),
             (["value", "code", "fix", "curve", "T=1", "T=2", *between], "T is set twice"),
             (["sample", "10001"], "10001 is not a number from 1 to 10,000"),
         ]:
