@@ -114,6 +114,18 @@ class Keeping(Words):
             sorted(it.name for it in (self.kept / "0003" / "replayed").iterdir()), ["0001", "0002"]
         )
 
+    def test_a_new_row_of_a_later_day_is_not_taken(self) -> None:
+        """A step that is done anew takes no row of its own day that its table did not have."""
+        self.kept = self.folder / "later"
+        seen = "scale(round(half_even, 2, obs(FX, -1)), pay(EUR, Me, Acme))"
+        book = self.file("first.txt", f"{FIRST}contract seen = after(2, {seen});\n")
+        self.keep("begin", book)
+        self.keep("advance", self.wrong, "--to", "1")
+        more = self.file("more.csv", HEADER + "FX,0,1.1640\nFX,1,1.0000\n")
+        gone = "gone,touch,2026-01-05,Acme,Me,EUR,500.00\n"
+        self.assertEqual(self.keep("correct", more), Ran(0, gone, ""))
+        self.assertIn(f"contract seen = after(1, {seen});\n", self.keep("show").output)
+
     def test_a_row_that_is_taken_out_counts(self) -> None:
         self.kept = self.folder / "assumed"
         fixed = "round(half_even, 2, obs(FX, -1))"
