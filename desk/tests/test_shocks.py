@@ -126,6 +126,20 @@ class Steps(Sets):
                 wanted = abs(wanted) if not wanted else wanted
                 self.assertIn(f"{name},{label},{day},{wanted}", lines, (step, mode))
 
+    def test_numbers_of_many_digits(self) -> None:
+        """A value keeps each of its digits, and so do the bounds that are told."""
+        number = "1234567890123456.123456789012345678"
+        most = "9999999999999999.999999999999999999"
+        bounds = f"num LONG : 18 in 0.000000000000000000 .. {most};"
+        self.file("book.txt", BOOK.replace("flag F;", f"flag F; {bounds}"))
+        self.file("fix.csv", f"label,day,value\nLONG,2026-01-07,{number}\n")
+        lines = self.made("--label", "LONG", "--by=0,0.000000000000000001,100%")
+        self.assertEqual(
+            [line.split(",")[3] for line in lines[1:]],
+            [number, f"{number[:-1]}9", "2469135780246912.246913578024691356"],
+        )
+        self.refused(7, f"from 0.000000000000000000 to {most}", "--label", "LONG", "--by=1000%")
+
     def test_names_of_steps(self) -> None:
         for text, name in (
             ("-5%", "down_5"),

@@ -4,7 +4,6 @@ from __future__ import annotations
 
 from collections.abc import Iterable, Iterator, Sequence
 from dataclasses import dataclass
-from decimal import Decimal
 from fractions import Fraction
 
 from ..decimals import quotient
@@ -12,6 +11,7 @@ from ..histories.deals import Book
 from ..program import Status, Stop
 from ..tables import Record, records
 from ..texts.names import Declared, NameSet
+from ..texts.offers import number_told
 from ..days import day_of
 from .moves import Scenario
 
@@ -114,15 +114,13 @@ class Shocked:
         scale = 10 ** (label.decimals or 0)
         exact = step.moved(Fraction(row.value)) * scale
         mantissa = quotient(exact.numerator, exact.denominator, self.mode)
-        written = text_of(mantissa, label.decimals or 0)
+        written = number_told(mantissa, label.decimals or 0)
         if not (label.low or 0) <= mantissa <= (label.high or 0):
-            bounds = (text_of(it or 0, label.decimals or 0) for it in (label.low, label.high))
+            bounds = (
+                number_told(it or 0, label.decimals or 0) for it in (label.low, label.high)
+            )
             place = f"{row.label} on {row.written} would be {written}"
             raise Stop(
                 Status.ROW, f"{scenario.name}: {place}, and is declared from {' to '.join(bounds)}"
             )
         return written
-
-
-def text_of(mantissa: int, decimals: int) -> str:
-    return f"{Decimal(mantissa).scaleb(-decimals):f}"
