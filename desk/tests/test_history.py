@@ -155,6 +155,20 @@ class Faults(Books):
                 self.write(book, table, curve)
                 self.refused(status, said)
 
+    def test_a_bad_row_that_no_call_would_read(self) -> None:
+        """It is told of a book without contracts, and before a day that is out of range."""
+        none, shape = "portfolio 1; amounts 2;", "fault row file 2 record 2 shape"
+        rows, factors = "label,day,value\n", "offset,factor\n"
+        for book in (none, none + " contract c = zero;", BOOK.partition("contract")[0]):
+            self.write(book, rows + "FX\n")
+            self.refused(7, shape)
+            self.write(book, rows, factors + "x,y\n")
+            self.refused(7, "curve.csv: fault row file 3 record 2 day")
+        self.write(BOOK, rows + "FX\n")
+        self.refused(7, shape, first="200000000", last="200000001")
+        self.write(BOOK, TABLE, factors + "x,y\n")
+        self.refused(7, "fault row file 3 record 2 day", first="200000000", last="200000001")
+
     def test_a_missing_file(self) -> None:
         self.curve = self.folder / "none"
         self.refused(3, "none: No such file or directory")

@@ -13,7 +13,7 @@ from ..answer_rows import read_as, scenarios_of
 from ..days import Calendar, day_of
 from ..engines import Engine
 from ..histories.asked import Asked, Coded, Days
-from ..histories.deals import Book, Deal, Pair, Stretches
+from ..histories.deals import Book, Deal, Stretches
 from ..histories.rates import Curves
 from ..program import Answer, Status, Stop
 from ..tables import SCENARIOS, records
@@ -112,8 +112,8 @@ class OverSet(Asked):
         super().take_table(data)
         self.scenarios = Scenarios(data, self.book.calendar)
 
-    def words(self, pair: Pair, day: int) -> tuple[str, ...]:
-        return (*super().words(pair, day), f"--mean={self.mode}")
+    def words_of(self, payer: str, receiver: str, asset: str, day: int) -> tuple[str, ...]:
+        return (*super().words_of(payer, receiver, asset, day), f"--mean={self.mode}")
 
     def part(self, deal: Deal) -> Part:
         if deal.name not in self.parts:

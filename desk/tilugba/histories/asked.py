@@ -6,19 +6,21 @@ from abc import ABC, abstractmethod
 from collections.abc import Iterator, Sequence
 from concurrent.futures import ThreadPoolExecutor
 from dataclasses import dataclass
+from functools import cached_property
 from pathlib import Path
 
 from ..asking.asks import Ask
 from ..engines import Engine
-from ..program import Answer, BadDay, BadRow, Fault, MissingFixing, Status, Stop, TooManyScenarios
+from ..needs.probes import ASSET, PAYER, RECEIVER, head_of
+from ..program import Answer, BadDay, BadRow, Fault, Status, Stop
 from .deals import Book, Deal, Pair, compiled
 from .rates import Curve, Curves
 
 CODE, TABLE, CURVE = "code", "table", "curve"
 # So many days are not asked for in vain.
 MANY = 1_000
-# Faults that are of a single call, and not of a file.
-OF_CALLS = (MissingFixing, BadDay, TooManyScenarios)
+# A contract that is no contract of a book.
+IDLE = "idle"
 
 
 @dataclass(frozen=True)
@@ -88,14 +90,24 @@ class Asked(ABC):
     def words(self, pair: Pair, day: int) -> tuple[str, ...]:
         """The words of a call."""
         parties, assets = self.book.parties, self.book.assets
-        sides = f"--from={parties[pair.payer]}", f"--to={parties[pair.receiver]}"
-        asset = f"--asset={assets[pair.asset]}"
-        return (self.command, CODE, TABLE, CURVE, f"--at={day}", *sides, asset)
+        return self.words_of(parties[pair.payer], parties[pair.receiver], assets[pair.asset], day)
+
+    def words_of(self, payer: str, receiver: str, asset: str, day: int) -> tuple[str, ...]:
+        """The words of a call by the names of its parties and its asset."""
+        sides = f"--from={payer}", f"--to={receiver}", f"--asset={asset}"
+        return (self.command, CODE, TABLE, CURVE, f"--at={day}", *sides)
 
     def answer(self, place: Place, table: bytes, curve: bytes) -> Answer:
         """The answer of a call over these files."""
         files = {CODE: place.it.code, TABLE: table, CURVE: curve}
         return self.engine.answer(self.words(place.pair, place.day), files)
+
+    @cached_property
+    def idle(self) -> bytes:
+        """The code of a contract that pays nothing, with the labels of the book."""
+        text = f"{head_of(self.book.labels)}contract {IDLE} = zero;\n"
+        words = ["payoff", "book", f"--contract={IDLE}"]
+        return self.engine.answer(words, {"book": text.encode()}).expected()
 
     def take_table(self, data: bytes) -> None:
         """Takes a table that the program takes, with the curve of the first day; both ends of the
@@ -104,18 +116,19 @@ class Asked(ABC):
         first = self.days.first
         curve = self.curves.data(first)
         self.refuse_rows(data, curve, first)
-        if self.deals:
-            self.known[self.curves.place(first)] = Curve(curve)
+        self.known[self.curves.place(first)] = Curve(curve)
         self.refuse_day(data, curve)
 
     def refuse_rows(self, table: bytes, curve: bytes, day: int) -> None:
-        """Raises a fault in a row of a table or of a curve. Which rows are read has no say here."""
-        if not (self.deals and self.book.parties and self.book.assets):
-            return
-        fault = self.answer(Place(day, self.deals[0], Pair(0, 0, 0)), table, curve).fault
+        """Raises a fault in a row of a table or of the curve of a day. They are taken with code
+        that reads nothing, so neither the contracts nor the day have a say.
+        """
+        files = {CODE: self.idle, TABLE: table, CURVE: curve}
+        words = self.words_of(PAYER, RECEIVER, ASSET, self.book.start)
+        fault = self.engine.answer(words, files).fault
         if fault and isinstance(fault.cause, BadRow) and fault.cause.place == 3:
             raise Stop(fault.status, f"{self.curves.place(day)}: {fault.message}")
-        if fault and not isinstance(fault.cause, OF_CALLS):
+        if fault:
             raise fault
 
     def refuse_day(self, table: bytes, curve: bytes) -> None:

@@ -22,7 +22,9 @@ from .walk import Bound, Question, Walk
 
 # The name of what is asked, and how many bytes of probes make a book.
 ASKED, MOST_BYTES = "probe", 4_000_000
-PAYS = "pay(A, P, Q) else zero"
+# The parties and the asset of such books.
+PAYER, RECEIVER, ASSET = "P", "Q", "A"
+PAYS = f"pay({ASSET}, {PAYER}, {RECEIVER}) else zero"
 
 
 @dataclass(frozen=True)
@@ -95,7 +97,7 @@ def head_of(declared: Declarations) -> str:
     lines = ["portfolio 1;", "amounts 0;"]
     if declared.origin is not None:
         lines.append(f"origin {date_text(declared.origin)};")
-    lines += [f"start {declared.start};", "party P, Q;", "asset A;"]
+    lines += [f"start {declared.start};", f"party {PAYER}, {RECEIVER};", f"asset {ASSET};"]
     for label in declared.names(NameSet.LABEL).values():
         if label.decimals is None or label.low is None or label.high is None:
             lines.append(f"flag {label.name};")
