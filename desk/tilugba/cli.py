@@ -7,6 +7,7 @@ from __future__ import annotations
 import argparse
 import importlib
 import os
+import signal
 import sys
 from collections.abc import Sequence
 from pathlib import Path
@@ -16,6 +17,7 @@ from typing import NoReturn
 from . import commands
 from .desk import COMMAND, Desk
 from .program import VARIABLE, Status, Stop
+from .signals import Signalled, signals_raised
 
 PURPOSE = (
     "The desk beside the program Tilugba. It computes no money and gives no verdict: it asks the "
@@ -131,7 +133,9 @@ def add_program_options(parser: argparse.ArgumentParser, default: object) -> Non
 
 
 def run(words: Sequence[str], beside: Path) -> int:
-    """Runs the subcommand that the first word names, and returns the status."""
+    """Runs the subcommand that the first word names, and returns the status. A signal that stops it
+    is raised, and ends the runs of the program.
+    """
     if not words:
         overview().error("a subcommand is missing")
     name = words[0]
@@ -143,7 +147,8 @@ def run(words: Sequence[str], beside: Path) -> int:
     arguments = parser_of(name, module).parse_args(words[1:])
     desk = Desk(name, beside, arguments.program, arguments.seconds)
     try:
-        return module.run(arguments, desk)
+        with signals_raised(desk.going.end):
+            return module.run(arguments, desk)
     except Stop as stop:
         desk.complain(stop.message)
         return stop.status
@@ -155,8 +160,10 @@ def main() -> int:
         return run(sys.argv[1:], Path(sys.argv[0]).resolve().parent)
     except SystemExit as ended:
         return ended.code if isinstance(ended.code, int) else Status.USAGE
-    except KeyboardInterrupt:
-        return 130
+    except Signalled as stopped:
+        return stopped.status
+    except KeyboardInterrupt:  # before the subcommand is read
+        return Signalled(signal.SIGINT).status
     except Exception as error:  # what a subcommand did not foresee is told in one line too
         told = " ".join(str(error).split())
         Desk("", Path()).complain(f"this should not happen: {type(error).__name__}: {told}")

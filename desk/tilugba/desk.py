@@ -11,7 +11,7 @@ from pathlib import Path
 from typing import TYPE_CHECKING, BinaryIO
 
 from . import program
-from .program import Program, Status, Stop, reason_of
+from .program import Going, Program, Status, Stop, reason_of
 
 if TYPE_CHECKING:
     from .engines import Engine
@@ -32,6 +32,7 @@ class Desk:
         seconds: float | None = None,
         output: BinaryIO | None = None,
         errors: BinaryIO | None = None,
+        going: Going | None = None,
     ) -> None:
         self.name = name
         self.beside = beside
@@ -39,10 +40,13 @@ class Desk:
         self.seconds = seconds
         self.output = output
         self.errors = errors
+        # The runs of the program that go on, here and in threads.
+        self.going = going or Going()
 
     @cached_property
     def program(self) -> Program:
-        return program.find(self.program_path, self.beside, self.seconds)
+        found = program.find(self.program_path, self.beside, self.seconds)
+        return found._replace(going=self.going)
 
     @cached_property
     def engine(self) -> Engine:

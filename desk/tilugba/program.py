@@ -243,13 +243,41 @@ def verdict_of(line: str) -> Verdict:
     raise Stop(Status.DESK, f"check printed a line that is no verdict: {line}")
 
 
+class Going:
+    """The runs that go on, which a command that is stopped ends together. Nothing waits here, so a
+    signal may come at any moment.
+    """
+
+    def __init__(self) -> None:
+        self.processes: set[subprocess.Popen[bytes]] = set()
+        self.is_over = False
+
+    @contextmanager
+    def has(self, process: subprocess.Popen[bytes]) -> Iterator[None]:
+        """A run that goes on meanwhile."""
+        self.processes.add(process)
+        try:
+            if self.is_over:
+                kill(process)
+            yield
+        finally:
+            self.processes.discard(process)
+
+    def end(self) -> None:
+        """Ends all runs; none begins any more."""
+        self.is_over = True
+        for process in tuple(self.processes):
+            kill(process)
+
+
 class Program(NamedTuple):
     """The program at a path, and after how many seconds a run is ended; without a number it may
-    take as long as it needs.
+    take as long as it needs. A command knows which runs go on.
     """
 
     path: Path
     seconds: float | None = None
+    going: Going | None = None
 
     def run(self, *words: str | os.PathLike[str] | bytes) -> Answer:
         """Runs the program on words. Bytes are the contents of a file: the program gets a name for
@@ -269,7 +297,9 @@ class Program(NamedTuple):
         """Runs words to their end: the status, and what was written. A run that is given up ends
         with all that it started.
         """
-        pipe = subprocess.PIPE
+        going, pipe = self.going or Going(), subprocess.PIPE
+        if going.is_over:
+            raise Stop(Status.DESK, "the command was stopped")
         try:
             process = subprocess.Popen(
                 words,
@@ -282,7 +312,8 @@ class Program(NamedTuple):
         except (OSError, ValueError) as error:
             raise Stop(Status.DESK, f"{self.path} does not start: {reason_of(error)}") from error
         try:
-            output, said = process.communicate(timeout=self.seconds)
+            with going.has(process):
+                output, said = process.communicate(timeout=self.seconds)
         except subprocess.TimeoutExpired as error:
             end(process)
             raise Stop(
@@ -310,10 +341,15 @@ class Program(NamedTuple):
 
 
 def end(process: subprocess.Popen[bytes]) -> None:
+    """Ends a process and those that it started, and waits for it."""
+    kill(process)
+    process.communicate()
+
+
+def kill(process: subprocess.Popen[bytes]) -> None:
     """Ends a process and those that it started, which are a group of their own."""
     with suppress(ProcessLookupError):
         os.killpg(process.pid, signal.SIGKILL)
-    process.communicate()
 
 
 def status_of(code: int) -> int:

@@ -137,7 +137,8 @@ class Verifying:
             raise Stop(Status.USAGE, f"{name} does not take these words") from error
         if any(getattr(arguments, it, None) for it in WRITING):
             raise Stop(Status.USAGE, "these words would write")
-        desk = Desk(name, self.desk.beside, self.desk.program_path, self.desk.seconds, output=out)
+        words_of_program = self.desk.program_path, self.desk.seconds
+        desk = Desk(name, self.desk.beside, *words_of_program, output=out, going=self.desk.going)
         status = module.run(arguments, desk)
         return Again(status, out.getvalue(), Sum.of_file(path_of(desk.engine)))
 

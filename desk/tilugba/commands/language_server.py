@@ -15,6 +15,7 @@ from ..desk import Desk
 from ..editor.protocol import Connection
 from ..editor.server import Server
 from ..program import Program
+from ..signals import Signalled
 
 SECONDS = 30.0
 
@@ -29,6 +30,8 @@ def run(arguments: argparse.Namespace, desk: Desk) -> int:
 
     try:
         return Server(Connection(sys.stdin.buffer, sys.stdout.buffer), find).serve()
+    # A thread may wait for the input of the editor, and Python would wait for the thread.
     except BrokenPipeError:
-        # The editor is gone. A thread may wait for its input, and Python would wait for the thread.
         os._exit(1)
+    except Signalled as stopped:
+        os._exit(stopped.status)

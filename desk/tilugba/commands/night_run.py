@@ -38,9 +38,10 @@ from ..desk import Desk
 from ..night import records
 from ..night.books import Book, books_of, refused, shown
 from ..night.folder import Folder
-from ..night.running import Night, Outcome, Signalled, signals_raised, tried
+from ..night.running import Night, Outcome, tried
 from ..program import Status, Stop, reason_of
 from ..progress import Progress
+from ..signals import Signalled
 
 # A status of words that do not do might be that of a book.
 USAGE_STATUS = Status.DESK
@@ -68,12 +69,11 @@ def configure(parser: argparse.ArgumentParser) -> None:
 
 def run(arguments: argparse.Namespace, desk: Desk) -> int:
     try:
-        with signals_raised():
-            return run_books(arguments, desk)
+        return run_books(arguments, desk)
     except Signalled as stopped:
         with suppress(Stop):
             desk.write(f"stopped by signal {stopped.number}; the same words go on from here\n")
-        return 128 + stopped.number
+        return stopped.status
 
 
 def run_books(arguments: argparse.Namespace, desk: Desk) -> int:

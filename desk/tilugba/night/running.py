@@ -7,18 +7,16 @@ from __future__ import annotations
 import hashlib
 import json
 import os
-import signal
 import subprocess
 import threading
 import time
-from collections.abc import Callable, Iterator, Sequence
+from collections.abc import Callable, Sequence
 from concurrent.futures import Future, ThreadPoolExecutor
-from contextlib import contextmanager
 from dataclasses import dataclass, replace
-from types import FrameType
 
 from ..program import Program, Status, Stop, reason_of
 from ..receipts import Sum
+from ..signals import Signalled
 from .books import Book, refused
 from .folder import Folder, remove
 from .sums import Sums
@@ -29,41 +27,10 @@ FINAL = (
     frozenset(Status)
     - {Status.UNREAD, Status.NOT_WRITTEN, Status.MEMORY, Status.WORDS, Status.DESK}
 )
-SIGNALS = (signal.SIGHUP, signal.SIGINT, signal.SIGTERM)
 # A signal for all processes of a group ends a run before the main thread hears of it.
 UNTIL_HEARD = 0.2
 # What `Sums` and `key_of` make of a book. Another number makes all results anew.
 FORM_OF_KEYS = 1
-
-
-class Signalled(Exception):
-    """The signal that stops the run."""
-
-    def __init__(self, number: int) -> None:
-        super().__init__(number)
-        self.number = number
-
-
-@contextmanager
-def signals_raised() -> Iterator[None]:
-    """Signals raise `Signalled`, the first of them. One that is ignored, as below `nohup`, stays
-    so.
-    """
-
-    def stop(number: int, _: FrameType | None) -> None:
-        for it in SIGNALS:
-            signal.signal(it, signal.SIG_IGN)
-        raise Signalled(number)
-
-    before = {it: signal.getsignal(it) for it in SIGNALS}
-    for it, handler in before.items():
-        if handler != signal.SIG_IGN:
-            signal.signal(it, stop)
-    try:
-        yield
-    finally:
-        for it, handler in before.items():
-            signal.signal(it, handler)
 
 
 @dataclass(frozen=True)
