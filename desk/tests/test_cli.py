@@ -111,6 +111,30 @@ class Processes(Room):
             self.assertEqual(ran.stderr.count("\n"), 1)
             self.assertIn("tilugba-desk format: the output was not written whole", ran.stderr)
 
+    def test_streams_that_are_closed(self) -> None:
+        """One line where there is a stream for it, and the same status where there is none."""
+        table = self.file("table.csv", "label,day,value\nA,0,1\n")
+        closed = "the output was not written whole: it is closed"
+        for words, streams, status, said in [
+            (("fill-days", table), ">&-", 4, f"tilugba-desk fill-days: {closed}\n"),
+            (("fill-days", table), ">&- 2>&-", 4, ""),
+            (("fill-days", self.folder / "none"), "2>&-", 3, ""),
+            (("fill-days",), "2>&-", 2, ""),
+            (("language-server",), "<&-", 70, "an editor talks to it on standard input"),
+            (("language-server",), ">&-", 70, "an editor talks to it on standard input"),
+        ]:
+            with self.subTest(words=words, streams=streams):
+                script = f'exec "$0" "$@" {streams}'
+                ran = subprocess.run(
+                    ["sh", "-c", script, DESK / "tilugba-desk", *words],
+                    input="",
+                    capture_output=True,
+                    text=True,
+                )
+                self.assertEqual((ran.returncode, ran.stdout), (status, ""))
+                self.assertEqual(ran.stderr.count("\n"), 1 if said else 0)
+                self.assertIn(said, ran.stderr)
+
     def test_the_script_runs_from_any_folder(self) -> None:
         link = self.folder / "td"
         link.symlink_to(DESK / "tilugba-desk")

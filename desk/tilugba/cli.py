@@ -95,7 +95,8 @@ class Parser(argparse.ArgumentParser):
     usage_status: int = Status.USAGE
 
     def error(self, message: str) -> NoReturn:
-        self.print_usage(sys.stderr)
+        if sys.stderr is not None:  # or the usage would go to standard output
+            self.print_usage(sys.stderr)
         self.exit(self.usage_status, f"{self.prog}: error: {message}\n")
 
 

@@ -8,7 +8,7 @@ from collections.abc import Iterable
 from contextlib import suppress
 from functools import cached_property
 from pathlib import Path
-from typing import TYPE_CHECKING, BinaryIO
+from typing import TYPE_CHECKING, BinaryIO, TextIO
 
 from . import program
 from .program import Going, Program, Status, Stop, reason_of
@@ -63,7 +63,9 @@ class Desk:
 
     def write(self, *parts: str | bytes) -> None:
         """Writes to standard output, whole, or ends the command with 4."""
-        out = self.output or sys.stdout.buffer
+        out = self.output or bytes_of(sys.stdout)
+        if out is None:
+            raise Stop(Status.NOT_WRITTEN, "the output was not written whole: it is closed")
         try:
             out.writelines(encoded(part) if isinstance(part, str) else part for part in parts)
             out.flush()
@@ -75,7 +77,9 @@ class Desk:
 
     def tell(self, lines: Iterable[str]) -> None:
         """Writes lines to standard error; what cannot be written there is lost."""
-        out = self.errors or sys.stderr.buffer
+        out = self.errors or bytes_of(sys.stderr)
+        if out is None:
+            return
         try:
             out.writelines(os.fsencode(line) + b"\n" for line in lines)
             out.flush()
@@ -86,6 +90,11 @@ class Desk:
         """Says in one line why the subcommand ends."""
         told = message.replace("\n", " ")
         self.tell([f"{COMMAND} {self.name}: {told}" if self.name else f"{COMMAND}: {told}"])
+
+
+def bytes_of(stream: TextIO | None) -> BinaryIO | None:
+    """What takes the bytes of a standard stream; nothing if this process was started without it."""
+    return None if stream is None else stream.buffer
 
 
 def encoded(text: str) -> bytes:

@@ -20,7 +20,7 @@ class Progress:
     def __init__(self, name: str, total: int, unit: str, stream: TextIO | None = None) -> None:
         self.name, self.total, self.unit = name, total, unit
         self.stream = sys.stderr if stream is None else stream
-        self.is_shown = self.stream.isatty()
+        self.is_shown = self.stream is not None and self.stream.isatty()
         self.count = 0
         self.begun = self.told = time.monotonic()
         self.width = 0

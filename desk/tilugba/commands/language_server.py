@@ -11,10 +11,10 @@ import argparse
 import os
 import sys
 
-from ..desk import Desk
+from ..desk import Desk, bytes_of
 from ..editor.protocol import Connection
 from ..editor.server import Server
-from ..program import Program
+from ..program import Program, Status, Stop
 from ..signals import Signalled
 
 SECONDS = 30.0
@@ -28,8 +28,11 @@ def run(arguments: argparse.Namespace, desk: Desk) -> int:
     def find() -> Program:
         return desk.program
 
+    streams = bytes_of(sys.stdin), bytes_of(sys.stdout)
+    if None in streams:
+        raise Stop(Status.DESK, "an editor talks to it on standard input and output")
     try:
-        return Server(Connection(sys.stdin.buffer, sys.stdout.buffer), find).serve()
+        return Server(Connection(*streams), find).serve()
     # A thread may wait for the input of the editor, and Python would wait for the thread.
     except BrokenPipeError:
         os._exit(1)
