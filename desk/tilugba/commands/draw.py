@@ -28,7 +28,10 @@ from ..tables import read_file
 # The status of a service that is not there.
 UNAVAILABLE = 69
 HEADER = re.compile(r"(month|value|day)(?:,[A-Za-z_][A-Za-z0-9_]*)+")
-ROW = re.compile(r"(?:-?[0-9]{1,40}|[0-9]{4}-[0-9]{2}(?:-[0-9]{2})?)(?:,-?[0-9]+(?:[.][0-9]+)?)+")
+NUMBER, MONTH, DATE = "-?[0-9]{1,40}", "[0-9]{4}-[0-9]{2}", "[0-9]{4}-[0-9]{2}-[0-9]{2}"
+AMOUNTS = "(?:,-?[0-9]+(?:[.][0-9]+)?)+"
+# What the first column of each kind of table may be, all rows alike.
+FIRSTS = {"month": (f"{MONTH}|{DATE}|{NUMBER}",), "value": (NUMBER,), "day": (NUMBER, DATE)}
 ALIKE = """set terminal svg size 900,400 font 'sans,13' background 'white' name 'picture'
 set datafile separator ','
 set title "%s" noenhanced
@@ -111,16 +114,23 @@ def read_table(path: str) -> Table:
     data = read_file(path)
     lines = data.decode("utf-8", "replace").splitlines()
     columns = lines[0].count(",") + 1 if lines else 0
-    is_table = (
-        columns
-        and HEADER.fullmatch(lines[0])
-        and all(ROW.fullmatch(it) and it.count(",") + 1 == columns for it in lines[1:])
+    head = HEADER.fullmatch(lines[0]) if lines else None
+    is_table = head and any(
+        all(re.fullmatch(f"(?:{first}){AMOUNTS}", it) for it in lines[1:])
+        for first in FIRSTS[head[1]]
     )
-    if not is_table or len(lines) < 2 or "'" in path:
+    is_even = all(it.count(",") + 1 == columns for it in lines)
+    if not is_table or not is_even or len(lines) < 2 or "'" in path or "\n" in path:
         raise Stop(
-            Status.ROW, f"{path}: it is no table by month, value or day, or has a ' in its name"
+            Status.ROW,
+            f"{path}: it is no table by month, value or day, or has a ' or a line end in its name",
         )
-    return Table(path, data, lines, columns)
+    return Table(plain_name(path), data, lines, columns)
+
+
+def plain_name(path: str) -> str:
+    """A name that gnuplot takes for that of a file: behind a `<` it would run a command."""
+    return path if path.startswith("/") else f"./{path}"
 
 
 def one_line(text: str) -> str:
