@@ -51,7 +51,7 @@ class Lines(Room):
     def test_no_values(self) -> None:
         for text in "", VALUES[:-1], VALUES.split("\n", 2)[2], VALUES.replace(
             "mean", "man"
-        ), "fault scenarios 3\n", VALUES + "a,1.50\n":
+        ), "fault scenarios 3\n", VALUES + "a,1.50\n", VALUES.replace("1.5", f"{'1' * 5000}.5"):
             self.refuses(lines.values_in, text, "is not what scenarios prints")
 
     def test_no_payments(self) -> None:

@@ -176,6 +176,10 @@ class Replays(Sets):
             lines[-4:], [*wanted, "on_2026_01_02,R,2,0.026", "on_2026_01_02,R,2026-01-08,0.000"]
         )
 
+    def test_a_number_that_is_too_long(self) -> None:
+        table = self.history("FX,0,1.0", f"FX,1,{'1' * 5000}")
+        self.refused(7, "FX has a number of 5,000 digits", "--replay", table, "--last", "1")
+
     def test_numbers_of_days(self) -> None:
         table = self.history("FX,-3,1.0", "FX,-2,1.1", "FX,4,1.1")
         names = {it.split(",")[0] for it in self.made("--replay", table, "--last", "2")[5:]}

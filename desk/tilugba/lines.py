@@ -14,7 +14,8 @@ from .tables import read_file
 
 NAME = "[A-Za-z_][A-Za-z0-9_]*"
 NUMBER = "-?[0-9]+(?:[.][0-9]+)?"
-POINTED = "-?[0-9]+[.][0-9]+"
+# No value that the program prints is nearly as long.
+POINTED = "-?[0-9]{1,300}[.][0-9]{1,300}"
 PAYMENT = re.compile(rf"(?:{NAME}|\*),([0-9-]+),({NAME}),({NAME}),({NAME}),([0-9]+(?:[.][0-9]+)?)")
 POSITION = re.compile(rf"([0-9-]+),({NAME}),({NAME}),({NUMBER})")
 SCENARIO = re.compile(rf"({NAME}),({POINTED})")

@@ -76,7 +76,10 @@ def name_of(day: Day) -> str:
 def number_of(path: str, label: str, text: str) -> Fraction:
     if text in ("true", "false"):
         raise Stop(Status.ROW, f"{path}: {label} is no number")
-    return Fraction(text)
+    try:
+        return Fraction(text)
+    except ValueError as error:  # Python makes no number of so many digits
+        raise Stop(Status.ROW, f"{path}: {label} has a number of {len(text):,} digits") from error
 
 
 def change(name: str, old: Fraction, new: Fraction, is_added: bool, place: str) -> Step:
