@@ -144,6 +144,22 @@ class Tables(unittest.TestCase):
         zoned = datetime.datetime(2026, 1, 7, tzinfo=datetime.timezone.utc)
         self.wrong(1, "day", "no time zone", ("FX", zoned, 1))
 
+    def test_what_python_makes_nothing_of(self) -> None:
+        """It is refused as any other cell is."""
+        self.wrong(1, "value", "there is nothing", ("FX", 0, Decimal("sNaN")))
+        self.wrong(2, "value", "too many digits", ("FX", 0, 1), ("FX", 1, 10**5000))
+        self.wrong(1, "day", "too many digits", ("FX", 10**5000, 1))
+        for rows, told in ([7], "row 1 is no row of cells: 7"), (
+            [("FX", 0, 1), "FX,1,1"], "row 2 is no row of cells: 'FX,1,1'"
+        ):
+            with self.assertRaisesRegex(TableError, told):
+                fixings_table(rows)
+        for decimals in "2", 2.0, None, 91, 10**5:
+            with self.assertRaisesRegex(TableError, "is no number of decimals"):
+                fixings_table([("FX", 0, 0.5)], mode="floor", decimals={"FX": decimals})
+        greatest = fixings_table([("FX", 0, -1.7e308)], mode="floor", decimals={"FX": 90})
+        self.assertEqual(len(greatest), len("label,day,value\nFX,0,-.\n") + 309 + 90)
+
     def test_what_is_no_table(self) -> None:
         for table in ([("FX", 0)], [{"label": "FX", "day": 0}], 5, {"FX": 1}, [{"FX": 1}]):
             with self.subTest(table=table), self.assertRaises(TableError):

@@ -28,6 +28,8 @@ MODES = {
 }
 # As many digits as a float has before its point, and more than a value has behind it.
 DIGITS = 400
+# To more decimals nothing is rounded: no label has as many.
+MOST_DECIMALS = 90
 # Of pandas, which need not be there: what stands for nothing.
 NOTHING = {"NAType", "NaTType"}
 
@@ -74,6 +76,9 @@ class Rounding:
     def __post_init__(self) -> None:
         if self.mode not in MODES:
             raise TableError(f"{self.mode} is no mode of rounding: it is one of {', '.join(MODES)}")
+        for label, decimals in self.decimals.items():
+            if not isinstance(decimals, Integral) or not abs(decimals) <= MOST_DECIMALS:
+                raise TableError(f"{decimals!r} is no number of decimals for {label}")
 
     def rounded(self, value: float, label: str) -> Decimal | None:
         """The value of the float itself, which may not be the decimal that was typed, rounded once;
@@ -101,7 +106,8 @@ def plain(cell: object) -> object:
     is_nothing = (
         cell is None
         or type(cell).__name__ in NOTHING
-        or (isinstance(cell, (float, Decimal)) and cell != cell)
+        or (isinstance(cell, float) and cell != cell)
+        or (isinstance(cell, Decimal) and cell.is_nan())
     )
     return None if is_nothing else cell
 
@@ -122,6 +128,13 @@ class Cell:
             raise self.wrong(f"a name is a text, and not {self.held!r}")
         return self.held
 
+    def whole(self) -> str:
+        """A whole number as it is written, if it has no more digits than Python writes."""
+        try:
+            return str(self.held)
+        except ValueError as error:
+            raise self.wrong("a number has too many digits") from error
+
     def day(self) -> str:
         held = self.held
         if isinstance(held, datetime.datetime):
@@ -131,7 +144,7 @@ class Cell:
         if isinstance(held, datetime.date):
             return held.isoformat()
         if isinstance(held, str) or (isinstance(held, Integral) and not isinstance(held, bool)):
-            return str(held)
+            return self.whole()
         raise self.wrong(f"a day is a date, a whole number or a text, and not {held!r}")
 
     def value(self, label: str, rounding: Rounding | None) -> str:
@@ -139,7 +152,7 @@ class Cell:
         if isinstance(held, bool):
             return "true" if held else "false"
         if isinstance(held, (str, Integral)):
-            return str(held)
+            return self.whole()
         if isinstance(held, Decimal) and held.is_finite():
             return format(held, "f")
         if isinstance(held, float) and rounding and held not in (float("inf"), float("-inf")):
@@ -208,6 +221,8 @@ def lines(kind: Kind, columns: Columns, rounding: Rounding | None) -> Iterator[l
         )
     yield list(kind.header)
     for number, row in enumerate(rows, 1):
+        if not isinstance(row, Iterable) or isinstance(row, (str, bytes)):
+            raise TableError(f"row {number} is no row of cells: {row!r}")
         held = list(row)
         if len(held) != len(names):
             raise TableError(f"row {number} has {len(held)} cells, and not {len(names)}")
