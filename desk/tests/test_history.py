@@ -315,7 +315,11 @@ class Keeping(Books):
         file = next((self.folder / "kept" / "answers").iterdir())
         lines = file.read_bytes().splitlines(keepends=True)
         file.write_bytes(
-            lines[0].replace(b"-55.0", b"-56.0") + b"".join(lines[1:-1]) + lines[-1][:40]
+            lines[0].replace(b"-55.0", b"-56.0")
+            + b"".join(lines[1:-1])
+            + lines[-1][:40]
+            + b"\n"
+            + b"[" * 200_000
         )
         self.assertEqual(self.values_asked(), (2, wanted))
 

@@ -231,9 +231,10 @@ class Verified(Receipts):
         )
 
     def test_lines_that_are_no_receipts(self) -> None:
-        for text in "x\n", "[]\n", "{}\n", '{"form": 1, "by": "tilugba", "words": [1]}\n':
+        texts = "x\n", "[]\n", "{}\n", '{"form": 1, "by": "tilugba", "words": [1]}\n', "[" * 200_000
+        for text in texts:
             ran = run_desk("verify", self.file("bad.jsonl", text))
-            self.assertEqual((ran.status, ran.output), (7, ""), text)
+            self.assertEqual((ran.status, ran.output), (7, ""), text[:100])
             self.assertIn("bad.jsonl: line 1 is no receipt of this release", ran.errors)
         self.night("0.txt")
         it = self.told("out/.night-run/receipts.jsonl")[0]
@@ -253,6 +254,7 @@ class Verified(Receipts):
                 "these words would write",
             ),
             (["history", "1.txt"], "history does not take these words"),
+            (["history", "--help"], "history does not take these words"),
             ([], "no receipt is of no word"),
         ]:
             self.file("forged.jsonl", json.dumps(it | {"words": words}) + "\n")
@@ -260,6 +262,20 @@ class Verified(Receipts):
             self.assertEqual(status, 1)
             self.assertIn(f"it does not run: {said}", lines[0])
         self.assertEqual((Path("1.txt").read_bytes(), Path("kept").exists()), (before, False))
+
+
+    def test_a_receipt_is_told_on_its_own_line(self) -> None:
+        """Whatever its words are, none of them is taken for what `verify` says."""
+        self.night("0.txt")
+        it = self.told("out/.night-run/receipts.jsonl")[0]
+        words = ["flows", "0.txt: stands\n2 stand, 0 do not\n", "\x1b[2J"]
+        self.file("forged.jsonl", json.dumps(it | {"words": words, "status": 1}) + "\n")
+        status, lines = self.verify("forged.jsonl", "--again")
+        self.assertEqual((status, lines[1:]), (1, ["0 stand, 1 does not"]))
+        self.assertIn(
+            "receipt 1: tilugba flows 0.txt: stands?2 stand, 0 do not? ?[2J: the status is",
+            lines[0],
+        )
 
 
 class Others(Receipts):

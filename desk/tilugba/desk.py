@@ -97,6 +97,11 @@ def bytes_of(stream: TextIO | None) -> BinaryIO | None:
     return None if stream is None else stream.buffer
 
 
+def one_line(text: str) -> str:
+    """A text of others as it is told on a line of its own: what cannot be shown is a `?`."""
+    return "".join(it if it.isprintable() else "?" for it in text)
+
+
 def encoded(text: str) -> bytes:
     """The bytes of what is printed. The name of a file in it may be bytes that are not UTF-8."""
     return text.encode("utf-8", "surrogateescape")

@@ -132,7 +132,7 @@ def receipts_in(path: Path, data: bytes) -> Iterator[Receipt]:
     for number, line in enumerate(data.splitlines(), 1):
         try:
             yield receipt_of(json.loads(line))
-        except (ValueError, TypeError, KeyError) as error:
+        except (ValueError, TypeError, KeyError, RecursionError) as error:
             raise Stop(
                 Status.ROW, f"{path}: line {number} is no receipt of this release"
             ) from error

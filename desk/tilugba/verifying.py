@@ -4,7 +4,7 @@ from __future__ import annotations
 
 import io
 from collections.abc import Iterator, Mapping, Sequence
-from contextlib import redirect_stderr, suppress
+from contextlib import redirect_stderr, redirect_stdout, suppress
 from dataclasses import dataclass, field
 from pathlib import Path
 
@@ -131,7 +131,7 @@ class Verifying:
         moved = [str(self.folder / word) if is_file_of(word, names) else word for word in words]
         module, out = module_of(name), io.BytesIO()
         try:
-            with redirect_stderr(io.StringIO()):
+            with redirect_stderr(io.StringIO()), redirect_stdout(io.StringIO()):
                 arguments = parser_of(name, module).parse_args(moved)
         except SystemExit as error:
             raise Stop(Status.USAGE, f"{name} does not take these words") from error

@@ -95,7 +95,7 @@ def asks_in(path: Path, engine_sum: str) -> Iterator[Ask]:
         }
         for words, files in told["calls"]:
             yield Ask(tuple(words), tuple((name, texts[total]) for name, total in files.items()))
-    except (ValueError, KeyError, TypeError) as error:
+    except (ValueError, KeyError, TypeError, RecursionError) as error:
         raise Stop(Status.ROW, f"{path} is no file of asks of this release") from error
 
 

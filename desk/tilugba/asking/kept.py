@@ -33,7 +33,7 @@ def lines_in(path: Path) -> Iterator[tuple[str, str]]:
     for line in path.read_bytes().splitlines():
         try:
             key, output, check = json.loads(line)
-        except (ValueError, TypeError):
+        except (ValueError, TypeError, RecursionError):
             continue
         if isinstance(key, str) and isinstance(output, str) and check == check_of(key, output):
             yield key, output

@@ -34,7 +34,7 @@ from collections.abc import Iterator, Sequence
 from contextlib import closing, suppress
 
 from ..counts import jobs
-from ..desk import Desk
+from ..desk import Desk, one_line
 from ..night import records
 from ..night.books import Book, books_of, refused, shown
 from ..night.folder import Folder
@@ -108,7 +108,7 @@ def summary(books: Sequence[Book], outcomes: Sequence[Outcome]) -> Iterator[str]
     """What failed, and how many did."""
     for book, outcome in zip(books, outcomes):
         if outcome.status:
-            line = "".join(it if it.isprintable() else "?" for it in outcome.line[:LONGEST_LINE])
+            line = one_line(outcome.line[:LONGEST_LINE])
             yield f"{shown(book.name)}: status {outcome.status:d}{', ' + line if line else ''}"
     failed = sum(it.status != Status.DONE for it in outcomes)
     before = sum(it.was_done for it in outcomes)

@@ -23,7 +23,7 @@ from __future__ import annotations
 import argparse
 from pathlib import Path
 
-from ..desk import Desk
+from ..desk import Desk, one_line
 from ..files import read_file
 from ..program import Status
 from ..receipts import receipts_in
@@ -44,7 +44,7 @@ def run(arguments: argparse.Namespace, desk: Desk) -> int:
     outputs = {it: read_file(it) for it in arguments.outputs}
     verifying = Verifying(desk, path, arguments.folder or Path(), arguments.again)
     found = list(outcomes_of(verifying, receipts, outputs))
-    desk.write(*(f"{it.line}\n" for it in found if arguments.all or not it.stands))
+    desk.write(*(f"{one_line(it.line)}\n" for it in found if arguments.all or not it.stands))
     failed = sum(not it.stands for it in found)
     stand = len(found) - failed
     counts = f"{stand} stand{'s' * (stand == 1)}, {failed} do{'es' * (failed == 1)} not"
