@@ -92,6 +92,17 @@ class Processes(Room):
         Desk("some", self.folder, output=out).write(os.fsdecode(b"b\xfcch.txt:1:1: \xc3\xbc\n"))
         self.assertEqual(out.getvalue(), b"b\xfcch.txt:1:1: \xc3\xbc\n")
 
+    def test_parts_are_written_as_they_are_made(self) -> None:
+        out = io.BytesIO()
+
+        def parts():
+            for number in range(3):
+                yield f"{number}\n"
+                self.assertEqual(out.getvalue().count(b"\n"), number + 1)
+
+        Desk("some", self.folder, output=out).write_each(parts())
+        self.assertEqual(out.getvalue(), b"0\n1\n2\n")
+
     def test_output_that_cannot_be_written(self) -> None:
         """A disk that is full, and a pipe that nobody reads: one line, and Python says no more at
         its end.

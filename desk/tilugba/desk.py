@@ -63,6 +63,10 @@ class Desk:
 
     def write(self, *parts: str | bytes) -> None:
         """Writes to standard output, whole, or ends the command with 4."""
+        self.write_each(parts)
+
+    def write_each(self, parts: Iterable[str | bytes]) -> None:
+        """Writes parts as they are made, of which there may be more than memory holds."""
         out = self.output or bytes_of(sys.stdout)
         if out is None:
             raise Stop(Status.NOT_WRITTEN, "the output was not written whole: it is closed")

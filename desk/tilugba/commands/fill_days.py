@@ -37,5 +37,5 @@ def run(arguments: argparse.Namespace, desk: Desk) -> int:
     table, to = tables.rows_by_label(arguments.table), arguments.to
     if to and table.are_dates not in (None, to.is_date):
         raise Stop(Status.ROW, f"{arguments.table}: its days are of another kind than the last one")
-    desk.write(*table.filled_lines(to.number if to else None))
+    desk.write_each(table.filled_lines(to.number if to else None))
     return Status.DONE
