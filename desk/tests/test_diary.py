@@ -75,6 +75,8 @@ class Diaries(Room):
             ("label,day,value\nGX,0,9\n", ["--to", "9"], 7, "fault row file 2 record 2 bounds"),
             ("label,day,value\nGX,0,1\n", ["--to", "9"], 8, "2026-01-10, call: fault missing FX 5"),
             (TABLE, ["--to", "never"], 2, "never is no day"),
+            # It is told at once, and not behind a million days.
+            (TABLE, ["--to", "999999999"], 11, "fault day 999999999"),
         ]:
             ran = self.diary(BOOK, table, *words)
             self.assertEqual((ran.status, ran.output, ran.errors.count("\n")), (status, "", 1))

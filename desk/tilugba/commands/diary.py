@@ -13,8 +13,8 @@ A day on which a contract read and paid nothing, so that only time went by, is l
 these days too. What was read is asked of the program: it gets the table without that row.
 
 Ends with 0; 3 if a file is not read; 4 if the output is not written whole; 10 if there is no
-such contract; otherwise with the status of the first run that ends with a fault, of which the
-day and the contract are told. Then nothing is printed.
+such contract; 11 if DAY is out of range; otherwise with the status of the first run that ends
+with a fault, of which the day and the contract are told. Then nothing is printed.
 """
 
 from __future__ import annotations
@@ -28,7 +28,7 @@ from ..counts import jobs
 from ..desk import Desk
 from ..diaries import Living, lines_of
 from ..files import read_file
-from ..histories.deals import Book, Deal, day_number, read_book, refuse_rows
+from ..histories.deals import Book, Deal, day_number, read_book, refuse_new_day, refuse_rows
 from ..program import Status, Stop
 from ..shocks.shocked import rows_of
 
@@ -53,6 +53,7 @@ def run(arguments: argparse.Namespace, desk: Desk) -> int:
             Status.DAY,
             f"{arguments.to} is before the book's start, {book.calendar.text(book.start)}",
         )
+    refuse_new_day(book, to, desk.engine)
     with ThreadPoolExecutor(arguments.jobs or processors()) as pool:
         diaries = list(pool.map(lambda deal: living.diary(deal, to), deals))
     told = lines_of(diaries, book.calendar, book.start, arguments.all)

@@ -46,6 +46,8 @@ def run(arguments: argparse.Namespace, desk: Desk) -> int:
         raise Stop(
             Status.USAGE, "FIRST, LAST and the day of --rates-to are all numbers or all dates"
         )
+    if first.number > last.number:
+        raise Stop(Status.USAGE, f"{arguments.first} is behind {arguments.last}")
     table = tables.rows_by_label(arguments.fix)
     if table.are_dates not in (None, first.is_date):
         raise Stop(Status.ROW, f"{arguments.fix}: its days are of another kind than the first one")

@@ -9,7 +9,7 @@ from dataclasses import dataclass
 
 from ..days import Calendar, day_of
 from ..engines import Engine
-from ..program import Fault, Refusal, Status, Stop, Verdict
+from ..program import BadDay, Fault, Refusal, Status, Stop, Verdict
 from ..texts.grammar import PORTFOLIO
 from ..texts.names import Declarations, NameSet
 from ..texts.reading import Reading
@@ -97,6 +97,16 @@ def refuse_rows(book: Book, table: bytes, engine: Engine) -> None:
     declarations.
     """
     engine.answer(["flows", "book", "fix"], {"book": book.header, "fix": table}).expected()
+
+
+def refuse_new_day(book: Book, day: int, engine: Engine) -> None:
+    """Raises the fault of a day to which the program does not advance, before all days up to it are
+    asked for.
+    """
+    files = {"book": book.header, "fix": b"label,day,value\n"}
+    fault = engine.answer(["advance", "book", "fix", f"--to={day}"], files).fault
+    if fault and isinstance(fault.cause, BadDay):
+        raise fault
 
 
 def deal_of(name: str, term: Term, text: bytes, declared: Declarations) -> Deal:
