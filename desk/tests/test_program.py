@@ -181,6 +181,31 @@ class Finding(Room):
         self.assertEqual(self.find("/named", TILUGBA="/else/where"), Path("/named"))
         self.assertEqual(self.find("tilugba"), self.folder / "bin/tilugba")
 
+    def test_the_script_of_a_clone(self) -> None:
+        """It is asked once, and what it notes is the program."""
+        for folder in ("bin", "clone/desk", "clone/built/unproved"):
+            (self.folder / folder).mkdir(parents=True)
+        self.file("clone/crates.txt", "")
+        note = 'echo built/unproved/SUM >"${0%/*}/built/looked_at"'
+        script = self.script("clone/tilugba", f'#!/bin/sh\necho "$*" >>"$0.asked"\n{note}\n')
+        made = self.script("clone/built/unproved/SUM", "#!/bin/sh\n")
+        asked = self.folder / "clone/tilugba.asked"
+        with self.assertRaises(Stop):
+            self.find()
+        self.assertFalse(asked.exists())
+        self.assertEqual(self.find(str(script)), made)
+        self.assertEqual(asked.read_text(encoding="utf-8"), "sample 1\n")
+        self.assertEqual(self.find(), made)
+        (self.folder / "linked").symlink_to(script)
+        self.assertEqual(self.find(TILUGBA=str(self.folder / "linked")), made)
+        made.unlink()
+        self.assertEqual(self.find(), script)
+        self.script("clone/tilugba", "#!/bin/sh\nexit 70\n")
+        with self.assertRaises(Stop) as raised:
+            self.find()
+        self.assertEqual(raised.exception.message, f"{script} gave no answer")
+        self.assertEqual(self.find(TILUGBA="/else/where"), Path("/else/where"))
+
 
 class Examples(unittest.TestCase):
     """Every example's status and output are those that it must have."""

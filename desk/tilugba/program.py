@@ -20,6 +20,8 @@ from typing import BinaryIO, NamedTuple
 
 NAME = "tilugba"
 VARIABLE = "TILUGBA"
+# In a clone: the program that its script runs, which the script notes in the first line.
+LOOKED_AT = "built/looked_at"
 GREATEST_FILE = 16_777_216
 
 
@@ -400,13 +402,13 @@ def file_name(word: str | os.PathLike[str] | bytes, handles: list[int]) -> str:
 
 def find(named: str | None, beside: Path, seconds: float | None = None) -> Program:
     """The program that is named, or else that of the environment, one beside the command, in its
-    clone, or in the PATH.
+    clone, or in the PATH. If that is the script of a clone, it is what the script runs.
     """
     if given := named or os.environ.get(VARIABLE):
         found = None if os.sep in given else first_program(in_path(given))
-        return Program(found or Path(given).absolute(), seconds)
+        return Program(behind(found or Path(given).absolute()), seconds)
     if found := first_program(candidates(beside)):
-        return Program(found, seconds)
+        return Program(behind(found), seconds)
     built = f"; in a clone, ./{NAME} builds it" if is_clone(beside.parent) else ""
     raise Stop(
         Status.DESK,
@@ -431,10 +433,36 @@ def is_clone(folder: Path) -> bool:
 
 
 def candidates(beside: Path) -> Iterator[Path]:
-    """Where the program may be. The script of a clone is none of them: it builds first, which takes
-    an hour.
+    """Where the program may be. The script of a clone is the last, and only if it has made one: what
+    it makes takes minutes, and is not proved.
     """
     yield beside / NAME
     if is_clone(beside.parent):
         yield beside.parent / "built" / NAME
     yield from in_path(NAME)
+    if is_clone(beside.parent) and (beside.parent / LOOKED_AT).is_file():
+        yield beside.parent / NAME
+
+
+def behind(path: Path) -> Path:
+    """What runs at a path. The script of a clone is asked once, and makes the program of its sources
+    first if need be; what it then runs is the program, since a receipt names its bytes. That it is
+    not proved the script says itself.
+    """
+    script = path.resolve()
+    if script.name != NAME or not is_clone(script.parent):
+        return path
+    try:
+        asked = subprocess.run(
+            [script, "sample", "1"],
+            stdin=subprocess.DEVNULL,
+            stdout=subprocess.DEVNULL,
+            check=False,
+        )
+    except OSError as error:
+        raise Stop(Status.DESK, f"{path} does not start: {reason_of(error)}") from error
+    if asked.returncode:
+        raise Stop(Status.DESK, f"{path} gave no answer")
+    with suppress(OSError, ValueError), open(script.parent / LOOKED_AT, encoding="utf-8") as file:
+        return first_program([script.parent / file.readline().strip()]) or path
+    return path
