@@ -13,6 +13,8 @@ from tilugba import cli
 from tilugba.desk import Desk
 from tilugba.program import Stop
 
+HEADER = "label,day,value\n"
+
 
 def a_module(run: object) -> ModuleType:
     module = ModuleType("a_module", "Does something.\n\nAnd says how.")
@@ -145,6 +147,22 @@ class Processes(Room):
                 self.assertEqual((ran.returncode, ran.stdout), (status, ""))
                 self.assertEqual(ran.stderr.count("\n"), 1 if said else 0)
                 self.assertIn(said, ran.stderr)
+
+    def test_no_file_gets_the_number_of_a_closed_stream(self) -> None:
+        """Output that is closed is output that cannot be written, and no file gets its number."""
+        book = self.file("book.txt", "portfolio 1; amounts 2;")
+        for words in (("explain", "migrate"), ("needs", "--until", "0", self.file("t.csv", HEADER))):
+            for closed, status in (((1,), 4), ((0, 1, 2), 4), ((0, 2), 0)):
+                with self.subTest(words=words, closed=closed):
+                    ran = subprocess.run(
+                        [DESK / "tilugba-desk", *words[:3], book, *words[3:]],
+                        stdin=subprocess.DEVNULL,
+                        capture_output=True,
+                        timeout=60,
+                        preexec_fn=lambda closed=closed: [os.close(it) for it in closed],
+                    )
+                    self.assertEqual((ran.returncode, bool(ran.stdout)), (status, status == 0))
+                    self.assertEqual(ran.stderr.count(b"\n"), closed == (1,))
 
     def test_the_script_runs_from_any_folder(self) -> None:
         link = self.folder / "td"

@@ -1,12 +1,14 @@
 """Finding and running the program, its faults, and programs that are missing, killed or hang."""
 
 import os
+import subprocess
+import sys
 import time
 import unittest
 from pathlib import Path
 from unittest import mock
 
-from tests.support import CASES, EXAMPLES, Room, the_program
+from tests.support import CASES, DESK, EXAMPLES, Room, the_program
 from tilugba import program
 from tilugba.program import (
     Acceptance,
@@ -52,6 +54,16 @@ class Runs(Room):
         self.assertEqual(
             self.run_it("check", path).verdicts(), [Acceptance("c", "0", 2, "2.00", 1)]
         )
+
+    def test_bytes_in_a_process_without_streams(self) -> None:
+        run = "Program(Path(sys.argv[1]), 30).run('check', sys.argv[2].encode())"
+        code = f"""import os, sys
+from pathlib import Path
+from tilugba.program import Program
+os.closerange(0, 3)
+os._exit({run}.status)"""
+        words = [sys.executable, "-c", code, the_program().path, BOOK.decode()]
+        self.assertEqual(subprocess.run(words, cwd=DESK, timeout=60).returncode, 0)
 
     def causes(self, *words: str | bytes) -> tuple[int, object]:
         with self.assertRaises(Fault) as raised:

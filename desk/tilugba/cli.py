@@ -15,7 +15,7 @@ from types import ModuleType
 from typing import NoReturn
 
 from . import commands
-from .desk import COMMAND, Desk
+from .desk import COMMAND, Desk, give_up
 from .program import VARIABLE, Status, Stop
 from .signals import Signalled, signals_raised
 
@@ -155,11 +155,32 @@ def run(words: Sequence[str], beside: Path) -> int:
         return stop.status
 
 
+def open_streams() -> None:
+    """Gives each standard stream that is closed its number, which a file would have otherwise.
+    Nothing can be read there, what is written to standard output fails as it does for the program,
+    and what is written to standard error is lost.
+    """
+    for number, how in enumerate((os.O_RDONLY, os.O_RDONLY, os.O_WRONLY)):
+        try:
+            os.fstat(number)
+        except OSError:
+            os.set_inheritable(os.open(os.devnull, how), True)
+    sys.stdin = sys.stdin or open(0, encoding="utf-8", closefd=False)
+    sys.stdout = sys.stdout or open(1, "w", encoding="utf-8", closefd=False)
+    sys.stderr = sys.stderr or open(2, "w", encoding="utf-8", closefd=False)
+
+
 def main() -> int:
     """Runs the words of this process. No traceback reaches a user, whatever happens."""
+    open_streams()
     try:
         return run(sys.argv[1:], Path(sys.argv[0]).resolve().parent)
     except SystemExit as ended:
+        try:
+            sys.stdout.flush()
+        except OSError:
+            give_up(sys.stdout.buffer)
+            return Status.NOT_WRITTEN
         return ended.code if isinstance(ended.code, int) else Status.USAGE
     except Signalled as stopped:
         return stopped.status

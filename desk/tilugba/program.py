@@ -9,6 +9,7 @@ line.
 from __future__ import annotations
 
 import enum
+import fcntl
 import os
 import re
 import signal
@@ -393,7 +394,10 @@ def file_names(words: Sequence[str | os.PathLike[str] | bytes]) -> Iterator[
 def file_name(word: str | os.PathLike[str] | bytes, handles: list[int]) -> str:
     if not isinstance(word, bytes):
         return os.fspath(word)
-    handle = os.memfd_create(NAME)
+    opened = os.memfd_create(NAME)
+    # A number below 3 is that of a stream, if this process has none: the program has its own there.
+    handle = fcntl.fcntl(opened, fcntl.F_DUPFD_CLOEXEC, 3)
+    os.close(opened)
     handles.append(handle)
     with open(handle, "wb", closefd=False) as file:
         file.write(word)
