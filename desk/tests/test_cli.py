@@ -151,7 +151,8 @@ class Processes(Room):
     def test_no_file_gets_the_number_of_a_closed_stream(self) -> None:
         """Output that is closed is output that cannot be written, and no file gets its number."""
         book = self.file("book.txt", "portfolio 1; amounts 2;")
-        for words in (("explain", "migrate"), ("needs", "--until", "0", self.file("t.csv", HEADER))):
+        table = self.file("table.csv", HEADER)
+        for words in (("explain", "migrate"), ("needs", "--until", "0", table)):
             for closed, status in (((1,), 4), ((0, 1, 2), 4), ((0, 2), 0)):
                 with self.subTest(words=words, closed=closed):
                     ran = subprocess.run(

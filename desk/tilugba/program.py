@@ -437,8 +437,8 @@ def is_clone(folder: Path) -> bool:
 
 
 def candidates(beside: Path) -> Iterator[Path]:
-    """Where the program may be. The script of a clone is the last, and only if it has made one: what
-    it makes takes minutes, and is not proved.
+    """Where the program may be. The script of a clone is the last, and only if it has made one,
+    which takes minutes.
     """
     yield beside / NAME
     if is_clone(beside.parent):
@@ -449,9 +449,9 @@ def candidates(beside: Path) -> Iterator[Path]:
 
 
 def behind(path: Path) -> Path:
-    """What runs at a path. The script of a clone is asked once, and makes the program of its sources
-    first if need be; what it then runs is the program, since a receipt names its bytes. That it is
-    not proved the script says itself.
+    """What runs at a path. The script of a clone is asked once, and first makes the program of its
+    sources if need be; what it then runs is the program, since a receipt names its bytes. That it
+    is not proved the script says itself.
     """
     script = path.resolve()
     if script.name != NAME or not is_clone(script.parent):

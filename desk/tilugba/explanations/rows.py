@@ -109,7 +109,9 @@ def shape_lines(table: Table, record: Record) -> list[str | None]:
             f"'{shortened(record.texts[0])}' is no name of a scenario, and no *",
             "a name has letters, digits and `_`, as in fx_up_1",
         ]
-    said = f"there are {len(record.fields)} fields; a record of {wanted} has {len(table.header)}"
+    count = len(record.fields)
+    there = "there is 1 field" if count == 1 else f"there are {count} fields"
+    said = f"{there}; a record of {wanted} has {len(table.header)}"
     return [said, separator_cure(record) or quote_cure(record)]
 
 
