@@ -2,6 +2,7 @@
 
 import io
 import os
+import resource
 import subprocess
 import sys
 import unittest
@@ -123,6 +124,21 @@ class Processes(Room):
             self.assertEqual(ran.returncode, 4)
             self.assertEqual(ran.stderr.count("\n"), 1)
             self.assertIn("tilugba-desk format: the output was not written whole", ran.stderr)
+
+    def test_output_of_which_a_part_is_written(self) -> None:
+        """A disk that is full behind the first bytes, also if Python is asked not to buffer."""
+        book = self.file("book.txt", "portfolio 1; amounts 2;" + "# a comment\n" * 20_000)
+        for more in ({}, {"PYTHONUNBUFFERED": "1"}):
+            with self.subTest(more=more), open(self.folder / "out", "wb") as output:
+                ran = subprocess.run(
+                    [DESK / "tilugba-desk", "format", book],
+                    stdout=output,
+                    stderr=subprocess.PIPE,
+                    env={**os.environ, **more},
+                    preexec_fn=lambda: resource.setrlimit(resource.RLIMIT_FSIZE, (20_000, 20_000)),
+                )
+                self.assertEqual(ran.returncode, 4)
+                self.assertIn(b"the output was not written whole: File too large", ran.stderr)
 
     def test_streams_that_are_closed(self) -> None:
         """One line where there is a stream for it, and the same status where there is none."""

@@ -90,5 +90,5 @@ def main() -> None:
         told = (answer.status, answer.output)
     except TilugbaError as error:
         told = error
-    sys.stdout.buffer.write(pickle.dumps(told))
-    sys.stdout.buffer.flush()
+    with open(1, "wb", closefd=False) as output:
+        output.write(pickle.dumps(told))

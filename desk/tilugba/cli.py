@@ -6,6 +6,7 @@ from __future__ import annotations
 
 import argparse
 import importlib
+import io
 import os
 import signal
 import sys
@@ -158,7 +159,8 @@ def run(words: Sequence[str], beside: Path) -> int:
 def open_streams() -> None:
     """Gives each standard stream that is closed its number, which a file would have otherwise.
     Nothing can be read there, what is written to standard output fails as it does for the program,
-    and what is written to standard error is lost.
+    and what is written to standard error is lost. Standard output is written whole: with
+    PYTHONUNBUFFERED Python would take a part of it for all.
     """
     for number, how in enumerate((os.O_RDONLY, os.O_RDONLY, os.O_WRONLY)):
         try:
@@ -166,7 +168,8 @@ def open_streams() -> None:
         except OSError:
             os.set_inheritable(os.open(os.devnull, how), True)
     sys.stdin = sys.stdin or open(0, encoding="utf-8", closefd=False)
-    sys.stdout = sys.stdout or open(1, "w", encoding="utf-8", closefd=False)
+    if sys.stdout is None or isinstance(sys.stdout.buffer, io.RawIOBase):
+        sys.stdout = open(1, "w", encoding="utf-8", closefd=False)
     sys.stderr = sys.stderr or open(2, "w", encoding="utf-8", closefd=False)
 
 
