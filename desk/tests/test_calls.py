@@ -153,6 +153,11 @@ class Behaviour:
             with self.subTest(day=day), self.assertRaises((TypeError, tilugba.UsageError)):
                 self.desk.advance(LOAN, [], to=day)
 
+    def test_what_is_no_text(self) -> None:
+        for text in (None, 5, [LOAN]):
+            with self.subTest(text=text), self.assertRaisesRegex(TypeError, "a text is a str, "):
+                self.desk.check(text)
+
     def test_no_word_is_taken_for_an_option(self) -> None:
         with self.assertRaises(tilugba.UsageError):
             self.desk.flows(LOAN, contract="--net")

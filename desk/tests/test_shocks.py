@@ -6,6 +6,7 @@ from decimal import ROUND_CEILING, ROUND_FLOOR, ROUND_HALF_EVEN, ROUND_HALF_UP, 
 from pathlib import Path
 
 from tests.support import Ran, Room, run_desk, the_program
+from tilugba.explanations.notes import counted
 from tilugba.shocks.steps import step_of
 from tilugba.texts.grammar import MODES
 
@@ -41,7 +42,8 @@ class Sets(Room):
         self.assertEqual((ran.status, ran.errors), (0, ""))
         lines = self.out.read_text().splitlines()
         count = len({line.split(",")[0] for line in lines[1:]} - {"*"})
-        self.assertEqual(ran.output, f"{count} scenarios, {len(lines) - 1} rows\n")
+        counts = counted(count, "scenario"), counted(len(lines) - 1, "row")
+        self.assertEqual(ran.output, f"{', '.join(counts)}\n")
         return lines
 
     def refused(self, status: int, said: str, *words: str | Path) -> None:
@@ -189,7 +191,7 @@ class Replays(Sets):
         few = self.history("FX,1,1.0", "FX,2,1.1", "R,3,0")
         self.refused(
             7,
-            "FX have 1 changes from day to day, and not 2",
+            "FX has 1 change from day to day, and not 2",
             "--replay",
             few,
             "--last",

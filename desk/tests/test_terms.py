@@ -418,7 +418,7 @@ class Terms(Room):
             ),
             (
                 {**FXOUT, "currency2": "JPY", "notionalPrincipal2": "0.5"},
-                "notionalPrincipal2: 0.5 has 1 decimals, and at most 0",
+                "notionalPrincipal2: 0.5 has 1 decimal, and at most 0",
             ),
             (
                 {**FXOUT, "purchaseDate": "2026-01-06"},
@@ -457,7 +457,7 @@ class Terms(Room):
             ),
             ("", "t.json: it is empty"),
             ("contractID,contractID\na,b\n", "t.json: record 1: contractID: it is there twice"),
-            ("contractID,currency\na\n", "t.json: record 2: it has 1 fields, and the header has 2"),
+            ("contractID,currency\na\n", "t.json: record 2: it has 1 field, and the header has 2"),
             (
                 "contractID,contractStructure\na,b\n",
                 "t.json: record 2: contractStructure: it is taken in JSON alone",

@@ -267,11 +267,11 @@ def text_of(text: bytes | str | os.PathLike[str]) -> bytes:
     if isinstance(text, os.PathLike):
         with open(text, "rb") as file:
             return file.read()
-    return (
-        bytes(text)
-        if isinstance(text, (bytes, bytearray, memoryview))
-        else text.encode("utf-8", "surrogateescape")
-    )
+    if isinstance(text, str):
+        return text.encode("utf-8", "surrogateescape")
+    if not isinstance(text, (bytes, bytearray, memoryview)):
+        raise TypeError(f"a text is a str, bytes or a path, and not {type(text).__name__}")
+    return bytes(text)
 
 
 def table_of(kind: Kind, table: object, rounding: Rounding | None = None) -> bytes:

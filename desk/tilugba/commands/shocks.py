@@ -32,6 +32,7 @@ from pathlib import Path
 from .. import tables
 from ..counts import count_up_to
 from ..desk import Desk
+from ..explanations.notes import counted
 from ..files import create, read_file
 from ..histories.deals import Book, day_number, read_book, refuse_rows
 from ..program import Status, Stop
@@ -79,7 +80,8 @@ def run(arguments: argparse.Namespace, desk: Desk) -> int:
     shocked = Shocked(book, rows, day_number(book, arguments.first), arguments.mode)
     lines = list(tables.lines_of(shocked.lines(scenarios)))
     create(arguments.out, "".join(lines).encode())
-    desk.write(f"{len(scenarios)} scenarios, {len(lines) - 1} rows\n")
+    counts = counted(len(scenarios), "scenario"), counted(len(lines) - 1, "row")
+    desk.write(f"{', '.join(counts)}\n")
     return Status.DONE
 
 

@@ -15,7 +15,7 @@ from ..tables import Record
 from ..texts.names import Declarations, Declared, NameSet
 from ..texts.offers import number_told
 from ..texts.tokens import GAP, Place, Source
-from .notes import Note, listed
+from .notes import Note, counted, listed
 from .text_faults import shortened
 
 HEADERS = {FIX: tables.FIXINGS, CURVE: tables.CURVE, SCEN: tables.SCENARIOS}
@@ -110,7 +110,7 @@ def shape_lines(table: Table, record: Record) -> list[str | None]:
             "a name has letters, digits and `_`, as in fx_up_1",
         ]
     count = len(record.fields)
-    there = "there is 1 field" if count == 1 else f"there are {count} fields"
+    there = f"there {'is' if count == 1 else 'are'} {counted(count, 'field')}"
     said = f"{there}; a record of {wanted} has {len(table.header)}"
     return [said, separator_cure(record) or quote_cure(record)]
 
@@ -226,7 +226,7 @@ def value_lines(label: str, declared: Declared, value: str) -> list[str | None]:
         if len(decimals) > declared.decimals:
             cure = f"round it at its source to {declared.decimals}"
             return [
-                f"{value} has {len(decimals)} decimals, and {label} has at most "
+                f"{value} has {counted(len(decimals), 'decimal')}, and {label} has at most "
                 f"{declared.decimals}",
                 cure,
             ]

@@ -10,8 +10,10 @@ from dataclasses import dataclass, field
 
 from ..command_line import is_name, meant
 from ..days import Calendar, Day, day_of
+from ..explanations.notes import counted
 from ..program import Status, Stop
 from ..texts.offers import mantissa_of
+from ..texts.tokens import RESERVED
 
 DECIMAL = re.compile(r"-?[0-9]+(?:[.][0-9]+)?")
 WHOLE = re.compile(r"[0-9]{1,18}")
@@ -50,6 +52,8 @@ class Fields:
             return text
         near = re.sub("[^A-Za-z0-9_]", "_", text)[:64]
         near = f"; perhaps {near}" if is_name(near) else ""
+        if text in RESERVED:
+            raise self.fault(name, f"{text!r} is a word of the language, and no name")
         raise self.fault(name, f"{text!r} is no name of letters, digits and _{near}")
 
     def declared(self, name: str, known: Collection[str], kind: str) -> str:
@@ -72,7 +76,7 @@ class Fields:
         if not DECIMAL.fullmatch(text) or mantissa_of(text.lstrip("-")) is None:
             raise self.fault(name, f"{text!r} is no number{cure_of(text)}")
         if decimals_of(text) > most:
-            has = f"{decimals_of(text)} decimals"
+            has = counted(decimals_of(text), "decimal")
             raise self.fault(name, f"{text} has {has}, and at most {most} may be here")
         return text
 

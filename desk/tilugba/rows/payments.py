@@ -10,6 +10,7 @@ from decimal import Decimal
 
 from ..calendars import Mover
 from ..days import Calendar, date_text
+from ..explanations.notes import counted
 from ..files import read_file
 from ..program import Status, Stop
 from ..tables import Record, records
@@ -58,7 +59,7 @@ class Payments:
     def payment(self, record: Record, header: tuple[str, ...]) -> Payment:
         where = f"{self.path}: record {record.number}"
         if len(record.fields) != len(header):
-            has = f"it has {len(record.fields)} fields, and the header has {len(header)}"
+            has = f"it has {counted(len(record.fields), 'field')}, and the header has {len(header)}"
             raise Stop(Status.ROW, f"{where}: {has}")
         return self.payment_of(Fields(where, dict(zip(header, record.texts))), record.number)
 

@@ -7,6 +7,7 @@ from dataclasses import dataclass
 from fractions import Fraction
 
 from ..days import Day
+from ..explanations.notes import counted
 from ..program import Status, Stop
 from ..tables import DayTable
 from .steps import Step
@@ -53,10 +54,9 @@ def replayed(
             raise Stop(Status.ROW, f"{path}: it has no row of {label}")
     days = sorted(set.intersection(*(set(values or {}) for values in rows.values())))
     if len(days) <= last:
-        told = (
-            f"{path}: {' and '.join(labels)} have {max(len(days) - 1, 0)} changes from day to day"
-        )
-        raise Stop(Status.ROW, f"{told}, and not {last}")
+        has = f"{' and '.join(labels)} {'has' if len(labels) == 1 else 'have'}"
+        changes = counted(max(len(days) - 1, 0), "change")
+        raise Stop(Status.ROW, f"{path}: {has} {changes} from day to day, and not {last}")
     for before, day in list(zip(days, days[1:]))[-last:]:
         name = name_of(Day(day, bool(history.are_dates)))
         steps = {}

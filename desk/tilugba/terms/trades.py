@@ -8,6 +8,7 @@ from dataclasses import dataclass
 from decimal import Decimal
 from typing import Any
 
+from ..explanations.notes import counted
 from ..files import read_file
 from ..program import Status, Stop
 from ..rows.fields import Fields
@@ -59,7 +60,7 @@ def from_table(path: str, data: bytes) -> Iterator[Trade]:
     for record in found[1:]:
         where = f"{path}: record {record.number}"
         if len(record.fields) != len(header):
-            has = f"it has {len(record.fields)} fields, and the header has {len(header)}"
+            has = f"it has {counted(len(record.fields), 'field')}, and the header has {len(header)}"
             raise Stop(Status.ROW, f"{where}: {has}")
         terms = {name: text for name, text in zip(header, record.texts) if text}
         if STRUCTURE in terms:
