@@ -2,6 +2,7 @@
 
 from __future__ import annotations
 
+import errno
 import os
 import sys
 from collections.abc import Iterable
@@ -75,9 +76,8 @@ class Desk:
             out.flush()
         except OSError as error:
             give_up(out)
-            raise Stop(
-                Status.NOT_WRITTEN, f"the output was not written whole: {reason_of(error)}"
-            ) from error
+            why = "it is closed" if error.errno == errno.EBADF else reason_of(error)
+            raise Stop(Status.NOT_WRITTEN, f"the output was not written whole: {why}") from error
 
     def tell(self, lines: Iterable[str]) -> None:
         """Writes lines to standard error; what cannot be written there is lost."""

@@ -11,7 +11,7 @@ import argparse
 import os
 import sys
 
-from ..desk import Desk, bytes_of
+from ..desk import Desk
 from ..editor.protocol import Connection
 from ..editor.server import Server
 from ..program import Program, Status, Stop
@@ -28,11 +28,12 @@ def run(arguments: argparse.Namespace, desk: Desk) -> int:
     def find() -> Program:
         return desk.program
 
-    streams = bytes_of(sys.stdin), bytes_of(sys.stdout)
-    if None in streams:
+    # A stream that was closed is the null device by now.
+    null = os.stat(os.devnull)
+    if any(os.path.samestat(os.fstat(number), null) for number in (0, 1)):
         raise Stop(Status.DESK, "an editor talks to it on standard input and output")
     try:
-        return Server(Connection(*streams), find).serve()
+        return Server(Connection(sys.stdin.buffer, sys.stdout.buffer), find).serve()
     # A thread may wait for the input of the editor, and Python would wait for the thread.
     except BrokenPipeError:
         os._exit(1)
