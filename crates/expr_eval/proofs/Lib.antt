@@ -1,5 +1,6 @@
 pub mod Days
 pub mod Operands
+pub mod SmallFacts
 pub mod RunValues
 pub mod RunReads
 pub mod SpanFacts

@@ -1,18 +1,54 @@
-use Rattle.std.proofs.Common.{rules, arith, ◌≡◌, true, sym, subst, ap, ap₂, ◌∙◌, ◌+◌, ℤ, pos, ◌+ℤ◌, ◌-ℤ◌, FitsSigned, w64, to_z, of_z, Ok}
+use Rattle.std.proofs.Common.{rules, arith, ◌≡◌, true, sym, subst, ap, ap₂, ◌∙◌, ◌+◌, ℤ, List, pos, ◌+ℤ◌, ◌-ℤ◌, FitsSigned, w64, to_z, of_z, Ok}
 use Rattle.std.specs.Int.{w128}
 use Rattle.std.proofs.lemmas.Int.{to_z-of_z}
 use Rattle.term_model.specs.declared.terms.Expr.{Expr}
-use Rattle.term_model.specs.Declarations.{declarations}
-use Rattle.term_model.specs.Terms.{expression, Acc}
+use Rattle.term_model.specs.Declarations.{Declarations, declarations}
+use Rattle.term_model.specs.Terms.{Expression, expression, Neg, Num, Cmp, Not, Logic, Div, Acc}
+use Rattle.term_model.specs.Environments.{Environment}
 use Rattle.interval_check.specs.Safety.{IsSmall}
 use Rattle.term_model.specs.Values.{num_op}
+use Rattle.expr_eval.specs.declared.scratch.Binding.{Binding}
 use Rattle.expr_eval.specs.Comparing.{number_found}
 use Rattle.expr_eval.specs.Bindings.{bindings}
-use Rattle.expr_eval.specs.Runs.{run_of}
+use Rattle.expr_eval.specs.Runs.{Answer, run_of}
 use Rattle.expr_eval.specs.Levels.{stays_level}
 use Rattle.expr_eval.proofs.Days.{days_go_on, days_tried-err, days_tried-stop, acc_is}
 use Rattle.expr_eval.proofs.LevelFacts.{AreSmall, first_chosen, level_day, operands_combined, operands_small, second_chosen, stays_so}
 use Rattle.expr_eval.proofs.evaluation.+evaluation.Goals as goal
+
+-- the same of a part of this form, on the same day
+run_is : (d : Declarations) (x : Expression) (e : Expr) (g : List Binding) (env : Environment) (f t : ℤ) (r : Answer) → r ≡ run_of d x g env t → t ≡ f → x ≡ expression e → r ≡ run_of d (expression e) g env f
+run_is d x e g env f t r is day form = is ∙ ap (λ (u : ℤ). run_of d x g env u) day ∙ ap (λ (y : Expression). run_of d y g env f) form
+
+pub evaluate-returns-in-Neg : goal.evaluate-returns-in-Neg
+evaluate-returns-in-Neg t c =
+    run_is (declarations c.args.decls.now) (Neg (expression c.deref.result.now)) c.args.e.now (bindings c.args.names.now) c.args.fixings.now c.args.day _ c.evaluate_one.result c.evaluate_one.ensures (to_z-of_z w64 c.args.day c.ranges.day)
+    (ap (λ (x : Expr). Neg (expression x)) c.deref.ensures ∙ ap (λ (x : Expr). expression x) (sym c.in-Neg.is))
+
+pub evaluate-returns-in-Num : goal.evaluate-returns-in-Num
+evaluate-returns-in-Num t c =
+    run_is (declarations c.args.decls.now) _ c.args.e.now (bindings c.args.names.now) c.args.fixings.now c.args.day _ c.evaluate_combined.result c.evaluate_combined.ensures (to_z-of_z w64 c.args.day c.ranges.day)
+    (ap₂ (λ (x y : Expr). Num c.in-Num.op (expression x) (expression y)) c.deref-in-Num.ensures c.deref-in-Num-2.ensures ∙ ap (λ (x : Expr). expression x) (sym c.in-Num.is))
+
+pub evaluate-returns-in-Cmp : goal.evaluate-returns-in-Cmp
+evaluate-returns-in-Cmp t c =
+    run_is (declarations c.args.decls.now) _ c.args.e.now (bindings c.args.names.now) c.args.fixings.now c.args.day _ c.evaluate_compared.result c.evaluate_compared.ensures (to_z-of_z w64 c.args.day c.ranges.day)
+    (ap₂ (λ (x y : Expr). Cmp c.in-Cmp.op (expression x) (expression y)) c.deref-in-Cmp.ensures c.deref-in-Cmp-2.ensures ∙ ap (λ (x : Expr). expression x) (sym c.in-Cmp.is))
+
+pub evaluate-returns-in-Not : goal.evaluate-returns-in-Not
+evaluate-returns-in-Not t c =
+    run_is (declarations c.args.decls.now) (Not (expression c.deref-in-Not.result.now)) c.args.e.now (bindings c.args.names.now) c.args.fixings.now c.args.day _ c.evaluate_one-in-Not.result c.evaluate_one-in-Not.ensures (to_z-of_z w64 c.args.day c.ranges.day)
+    (ap (λ (x : Expr). Not (expression x)) c.deref-in-Not.ensures ∙ ap (λ (x : Expr). expression x) (sym c.in-Not.is))
+
+pub evaluate-returns-in-Logic : goal.evaluate-returns-in-Logic
+evaluate-returns-in-Logic t c =
+    run_is (declarations c.args.decls.now) _ c.args.e.now (bindings c.args.names.now) c.args.fixings.now c.args.day _ c.evaluate_logic.result c.evaluate_logic.ensures (to_z-of_z w64 c.args.day c.ranges.day)
+    (ap₂ (λ (x y : Expr). Logic c.in-Logic.op (expression x) (expression y)) c.deref-in-Logic.ensures c.deref-in-Logic-2.ensures ∙ ap (λ (x : Expr). expression x) (sym c.in-Logic.is))
+
+pub evaluate-returns-in-Div : goal.evaluate-returns-in-Div
+evaluate-returns-in-Div t c =
+    run_is (declarations c.args.decls.now) _ c.args.e.now (bindings c.args.names.now) c.args.fixings.now c.args.day _ c.evaluate_quotient.result c.evaluate_quotient.ensures (to_z-of_z w64 c.args.day c.ranges.day)
+    (ap₂ (λ (x y : Expr). Div c.in-Div.mode c.in-Div.scale (expression x) (expression y)) c.deref-in-Div.ensures c.deref-in-Div-2.ensures ∙ ap (λ (x : Expr). expression x) (sym c.in-Div.is))
 
 pub evaluate_days-returns-in_err-value : goal.evaluate_days-returns-in_err-value
 evaluate_days-returns-in_err-value t c = grind (arith, days_tried-err)
