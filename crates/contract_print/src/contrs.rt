@@ -1,13 +1,13 @@
 //! The texts of contracts, and of what they name.
 
-ghost use Rattle.std.specs.Prelude.{◌≡◌, ◌≤◌, ◌+◌, ◌++◌, [], OnOk};
+ghost use Rattle.std.specs.Prelude.{◌≡◌, ◌≤◌, ◌+◌, ◌++◌, [], OnOk, codes};
 ghost use Rattle.std.specs.Map.{keys_of};
 ghost use Rattle.term_model.specs.Declarations.{declarations};
 ghost use Rattle.term_model.specs.Terms.{contract, expression};
 ghost use Rattle.term_model.specs.Sizes.{height, height_of_contract};
 ghost use Rattle.contract_grammar.specs.Names.{declared_by};
 ghost use Rattle.term_model.specs.DayCounts.{day_count};
-ghost use Rattle.contract_print.specs.TermTexts.{contr_text, days_text, expr_text, more_days_text, name_at, observed, sum_text};
+ghost use Rattle.contract_print.specs.TermTexts.{◌⊕◌, bound_name, contr_text, days_text, expr_text, more_days_text, name_at, observed, sum_text};
 ghost use Rattle.contract_grammar.specs.Writable.{IsWritable, IsWritableContract};
 
 use crate::exprs::{Leaf, append_expr};
@@ -167,6 +167,109 @@ fn append_observing(
     append_expr(alloc, out, &leaf, binders, e)
 }
 
+// A payment.
+fn append_payment(
+    out: &mut Vec<u8>,
+    decls: &Decls,
+    asset: u32,
+    from: u32,
+    to: u32,
+) -> Result<(), NoMemory>
+    ensures { OnOk result (out.new.items ≡ out.old.items
+        ++ (codes "pay(" ⊕ name_at (keys_of decls.now.assets.entries) asset ⊕ codes ", "
+        ⊕ name_at decls.now.parties.keys from ⊕ codes ", "
+        ⊕ name_at decls.now.parties.keys to ⊕ codes ")")) }
+{
+    append(out, b"pay(")?;
+    append_asset_name(out, &decls.assets, asset)?;
+    append(out, b", ")?;
+    append_name(out, &decls.parties, from)?;
+    append(out, b", ")?;
+    append_name(out, &decls.parties, to)?;
+    append(out, b")")
+}
+
+// What stands before the contract that is scaled.
+fn append_scaling(
+    alloc: Global,
+    out: &mut Vec<u8>,
+    decls: &Decls,
+    binders: u32,
+    factor: &Expr,
+) -> Result<(), NoMemory>
+    requires writable { IsWritable binders (expression factor.now) }
+    requires low { binders + height (expression factor.now) ≤ 1_000 }
+    ensures { OnOk result (out.new.items ≡ out.old.items ++ (codes "scale("
+        ⊕ expr_text (observed (keys_of decls.now.labels.entries)) binders (expression factor.now)
+        ⊕ codes ", ")) }
+{
+    append(out, b"scale(")?;
+    append_observing(alloc, out, decls, binders, factor)?;
+    append(out, b", ")
+}
+
+// What stands before the contract that comes after some days.
+fn append_delay(
+    alloc: Global,
+    out: &mut Vec<u8>,
+    decls: &Decls,
+    days: &Days,
+) -> Result<(), NoMemory>
+    ensures { OnOk result (out.new.items ≡ out.old.items ++ (codes "after("
+        ⊕ days_text (declared_by (declarations decls.now) []) (day_count days.now)
+        ⊕ codes ", ")) }
+{
+    append(out, b"after(")?;
+    append_days(alloc, out, decls, days)?;
+    append(out, b", ")
+}
+
+// What stands before the contract in which a name is bound.
+fn append_binding(
+    alloc: Global,
+    out: &mut Vec<u8>,
+    decls: &Decls,
+    binders: u32,
+    bound: &Expr,
+) -> Result<(), NoMemory>
+    requires writable { IsWritable binders (expression bound.now) }
+    requires low { binders + height (expression bound.now) ≤ 1_000 }
+    ensures { OnOk result (out.new.items ≡ out.old.items
+        ++ (codes "let " ⊕ bound_name binders ⊕ codes " = "
+        ⊕ expr_text (observed (keys_of decls.now.labels.entries)) binders (expression bound.now)
+        ⊕ codes " in ")) }
+{
+    append(out, b"let ")?;
+    append_bound_name(alloc, out, binders)?;
+    append(out, b" = ")?;
+    append_observing(alloc, out, decls, binders, bound)?;
+    append(out, b" in ")
+}
+
+// What stands before the two contracts of which a test chooses one.
+fn append_test(
+    alloc: Global,
+    out: &mut Vec<u8>,
+    decls: &Decls,
+    binders: u32,
+    test: &Expr,
+    days: &Days,
+) -> Result<(), NoMemory>
+    requires writable { IsWritable binders (expression test.now) }
+    requires low { binders + height (expression test.now) ≤ 1_000 }
+    ensures { OnOk result (out.new.items ≡ out.old.items ++ (codes "if "
+        ⊕ expr_text (observed (keys_of decls.now.labels.entries)) binders (expression test.now)
+        ⊕ codes " within "
+        ⊕ days_text (declared_by (declarations decls.now) []) (day_count days.now)
+        ⊕ codes " then ")) }
+{
+    append(out, b"if ")?;
+    append_observing(alloc, out, decls, binders, test)?;
+    append(out, b" within ")?;
+    append_days(alloc, out, decls, days)?;
+    append(out, b" then ")
+}
+
 /// Appends the canonical text of a contract that has so many binders round it.
 pub fn append_contr(
     alloc: Global,
@@ -182,15 +285,7 @@ pub fn append_contr(
 {
     match c {
         Contr::Zero => append(out, b"zero"),
-        Contr::Pay { asset, from, to } => {
-            append(out, b"pay(")?;
-            append_asset_name(out, &decls.assets, *asset)?;
-            append(out, b", ")?;
-            append_name(out, &decls.parties, *from)?;
-            append(out, b", ")?;
-            append_name(out, &decls.parties, *to)?;
-            append(out, b")")
-        }
+        Contr::Pay { asset, from, to } => append_payment(out, decls, *asset, *from, *to),
         Contr::Both { left, right } => {
             append(out, b"both(")?;
             append_contr(alloc, out, decls, binders, left)?;
@@ -199,25 +294,17 @@ pub fn append_contr(
             append(out, b")")
         }
         Contr::Scale { factor, body } => {
-            append(out, b"scale(")?;
-            append_observing(alloc, out, decls, binders, factor)?;
-            append(out, b", ")?;
+            append_scaling(alloc, out, decls, binders, factor)?;
             append_contr(alloc, out, decls, binders, body)?;
             append(out, b")")
         }
         Contr::After { days, body } => {
-            append(out, b"after(")?;
-            append_days(alloc, out, decls, days)?;
-            append(out, b", ")?;
+            append_delay(alloc, out, decls, days)?;
             append_contr(alloc, out, decls, binders, body)?;
             append(out, b")")
         }
         Contr::Let { bound, body } => {
-            append(out, b"let ")?;
-            append_bound_name(alloc, out, binders)?;
-            append(out, b" = ")?;
-            append_observing(alloc, out, decls, binders, bound)?;
-            append(out, b" in ")?;
+            append_binding(alloc, out, decls, binders, bound)?;
             append_contr(alloc, out, decls, binders + 1, body)
         }
         Contr::Within {
@@ -226,11 +313,7 @@ pub fn append_contr(
             hit,
             miss,
         } => {
-            append(out, b"if ")?;
-            append_observing(alloc, out, decls, binders, test)?;
-            append(out, b" within ")?;
-            append_days(alloc, out, decls, days)?;
-            append(out, b" then ")?;
+            append_test(alloc, out, decls, binders, test, days)?;
             append_contr(alloc, out, decls, binders, hit)?;
             append(out, b" else ")?;
             append_contr(alloc, out, decls, binders, miss)
