@@ -65,4 +65,6 @@ def main(principal, rate, months, first):
     print(f"portfolio 1;\namounts 2;\norigin {first};\nparty Bank, Owner;\nasset EUR;\n\ncontract mortgage = {balanced(parts)};")
 
 
+if len(sys.argv) != 5:
+    sys.exit(__doc__.splitlines()[0])
 main(*sys.argv[1:])
