@@ -124,8 +124,9 @@ def command_lines(folder: str) -> list[str]:
 def example(command: Command, folder: str) -> list[str]:
     """A command in the section EXAMPLES."""
     first, *more = command_lines(folder)
-    shown = [f"$ {first}", *(f"    {it}" for it in more), *printed(folder)]
-    head = ["In", f".Pa examples/{command.example} :"]
+    output = printed(folder)
+    shown = [f"$ {first}", *(f"    {it}" for it in more), *output]
+    head = ["In", f".Pa examples/{command.example} :"] if output else ["In", f".Pa examples/{command.example} ,", "without its long output:"]
     return [*head, ".Bd -literal -offset 2n", *map(escaped, shown), ".Ed"]
 
 
