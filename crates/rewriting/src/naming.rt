@@ -1,10 +1,10 @@
 //! Names in expressions: whether one is used, and a literal in its place.
 
 ghost use Rattle.std.specs.Prelude.{◌≡◌, ◌≤◌, ◌+◌, ◌^◌, IfOk};
-ghost use Rattle.term_model.specs.Terms.{expression, Var};
+ghost use Rattle.term_model.specs.Terms.{expression, Cond, Var};
 ghost use Rattle.term_model.specs.Sizes.{height};
 ghost use Rattle.term_model.specs.Redexes.{uses, names_within};
-ghost use Rattle.rewriting.specs.Rebuilding.{after};
+ghost use Rattle.rewriting.specs.Rebuilding.{after, over_one, over_two};
 ghost use Rattle.rewriting.specs.Substituting.{substituted, name_without};
 
 use crate::rebuilding::{of_one, of_three, of_two};
@@ -81,6 +81,7 @@ fn name_without(
 
 /// The expression with another one for the name with `back` binders between; names from farther out
 /// count one binder less. It answers nothing where nothing changes.
+#[cycle(substituting)]
 pub fn substituted(
     alloc: Global,
     e: &Expr,
@@ -94,52 +95,91 @@ pub fn substituted(
     match e {
         Expr::Lit { .. } | Expr::Yes { .. } | Expr::Obs { .. } => Ok(None),
         Expr::Var { back: name } => name_without(alloc, e, *name, back, other),
-        Expr::Neg { of } => {
-            let one = substituted(alloc, of, back, other)?;
-            of_one(alloc, e, of, one)
-        }
-        Expr::Not { of } => {
-            let one = substituted(alloc, of, back, other)?;
-            of_one(alloc, e, of, one)
-        }
-        Expr::Widen { of, .. } => {
-            let one = substituted(alloc, of, back, other)?;
-            of_one(alloc, e, of, one)
-        }
-        Expr::Round { of, .. } => {
-            let one = substituted(alloc, of, back, other)?;
-            of_one(alloc, e, of, one)
-        }
+        Expr::Neg { of } => over_substituted(alloc, e, of, back, other),
+        Expr::Not { of } => over_substituted(alloc, e, of, back, other),
+        Expr::Widen { of, .. } => over_substituted(alloc, e, of, back, other),
+        Expr::Round { of, .. } => over_substituted(alloc, e, of, back, other),
         Expr::Num { left, right, .. } => {
-            let one = substituted(alloc, left, back, other)?;
-            let two = substituted(alloc, right, back, other)?;
-            of_two(alloc, e, left, right, one, two)
+            over_both_substituted(alloc, e, left, back, right, back, other)
         }
         Expr::Cmp { left, right, .. } => {
-            let one = substituted(alloc, left, back, other)?;
-            let two = substituted(alloc, right, back, other)?;
-            of_two(alloc, e, left, right, one, two)
+            over_both_substituted(alloc, e, left, back, right, back, other)
         }
         Expr::Logic { left, right, .. } => {
-            let one = substituted(alloc, left, back, other)?;
-            let two = substituted(alloc, right, back, other)?;
-            of_two(alloc, e, left, right, one, two)
+            over_both_substituted(alloc, e, left, back, right, back, other)
         }
         Expr::Div { top, below, .. } => {
-            let one = substituted(alloc, top, back, other)?;
-            let two = substituted(alloc, below, back, other)?;
-            of_two(alloc, e, top, below, one, two)
+            over_both_substituted(alloc, e, top, back, below, back, other)
         }
-        Expr::Cond { test, yes, no } => {
-            let one = substituted(alloc, test, back, other)?;
-            let two = substituted(alloc, yes, back, other)?;
-            let three = substituted(alloc, no, back, other)?;
-            of_three(alloc, e, test, yes, no, one, two, three)
-        }
+        Expr::Cond { test, yes, no } => choice_substituted(alloc, e, test, yes, no, back, other),
         Expr::Acc { body, first, .. } => {
-            let one = substituted(alloc, body, back + 1, other)?;
-            let two = substituted(alloc, first, back, other)?;
-            of_two(alloc, e, body, first, one, two)
+            over_both_substituted(alloc, e, body, back + 1, first, back, other)
         }
     }
+}
+
+// A node over one part.
+#[cycle(substituting)]
+fn over_substituted(
+    alloc: Global,
+    e: &Expr,
+    of: &Expr,
+    back: u32,
+    other: &Expr,
+) -> Result<Option<Expr>, NoMemory>
+    requires low { back + height (expression of.now) ≤ 2 ^ 31 }
+    requires over { over_one (expression e.now) (expression of.now) ≡ expression e.now }
+    ensures { IfOk result (λ r. after (expression e.now) r ≡ over_one (expression e.now)
+        (substituted back (expression other.now) (expression of.now))) }
+{
+    let one = substituted(alloc, of, back, other)?;
+    of_one(alloc, e, of, one)
+}
+
+// A node over two parts, each with the binders between the name and it.
+#[cycle(substituting)]
+fn over_both_substituted(
+    alloc: Global,
+    e: &Expr,
+    left: &Expr,
+    left_back: u32,
+    right: &Expr,
+    right_back: u32,
+    other: &Expr,
+) -> Result<Option<Expr>, NoMemory>
+    requires left { left_back + height (expression left.now) ≤ 2 ^ 31 }
+    requires right { right_back + height (expression right.now) ≤ 2 ^ 31 }
+    requires over { over_two (expression e.now) (expression left.now) (expression right.now)
+        ≡ expression e.now }
+    ensures { IfOk result (λ r. after (expression e.now) r ≡ over_two (expression e.now)
+        (substituted left_back (expression other.now) (expression left.now))
+        (substituted right_back (expression other.now) (expression right.now))) }
+{
+    let one = substituted(alloc, left, left_back, other)?;
+    let two = substituted(alloc, right, right_back, other)?;
+    of_two(alloc, e, left, right, one, two)
+}
+
+// A choice.
+#[cycle(substituting)]
+fn choice_substituted(
+    alloc: Global,
+    e: &Expr,
+    test: &Expr,
+    yes: &Expr,
+    no: &Expr,
+    back: u32,
+    other: &Expr,
+) -> Result<Option<Expr>, NoMemory>
+    requires low { back + height (Cond (expression test.now) (expression yes.now)
+        (expression no.now)) ≤ 2 ^ 31 }
+    requires over { expression e.now ≡ Cond (expression test.now) (expression yes.now)
+        (expression no.now) }
+    ensures { IfOk result (λ r. after (expression e.now) r
+        ≡ substituted back (expression other.now) (expression e.now)) }
+{
+    let one = substituted(alloc, test, back, other)?;
+    let two = substituted(alloc, yes, back, other)?;
+    let three = substituted(alloc, no, back, other)?;
+    of_three(alloc, e, test, yes, no, one, two, three)
 }
