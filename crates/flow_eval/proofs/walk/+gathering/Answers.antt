@@ -1,10 +1,11 @@
-use Rattle.std.proofs.Common.{rules, ◌≡◌, ◌≤◌, ◌-◌, ◌∷◌, to_z, of_z, FitsSigned, unsigned_abs, ◌*ℤ◌, ◌^◌, ℕ, List, length, Err, arith, sym, ◌∙◌, subst, refl, false, drop}
+use Rattle.std.proofs.Common.{rules, ◌≡◌, ◌≤◌, ◌-◌, ◌∷◌, to_z, of_z, FitsSigned, unsigned_abs, ◌*ℤ◌, ◌^◌, ℕ, List, length, Err, arith, ap, ap₂, sym, ◌∙◌, subst, refl, false, drop}
 use Rattle.std.specs.Int.{w128}
 use Rattle.std.specs.List.{All}
 use Rattle.std.proofs.lemmas.Int.{to_z-of_z}
 use Rattle.term_model.specs.Declarations.{declarations}
+use Rattle.term_model.specs.declared.terms.Contr.{Contr}
 use Rattle.term_model.specs.DayCounts.{day_count}
-use Rattle.term_model.specs.Terms.{contract, expression, Within}
+use Rattle.term_model.specs.Terms.{Contract, contract, expression, Both, Scale, Let, Within}
 use Rattle.term_model.specs.Values.{kinds, num}
 use Rattle.term_model.specs.Kinds.{scale_of}
 use Rattle.term_model.specs.Reads.{reads_of}
@@ -15,6 +16,7 @@ use Rattle.expr_eval.specs.Standing.{StandFor}
 use Rattle.flow_eval.specs.declared.payments.Payment.{Payment}
 use Rattle.expr_eval.specs.Trials.{answer_of}
 use Rattle.flow_eval.specs.Walks.{walk_of}
+use Rattle.flow_eval.specs.Gathering.{Gathers}
 use Rattle.flow_eval.specs.Readiness.{CanAnswer}
 use Rattle.flow_eval.specs.Faults.{lacks_place}
 use Rattle.flow_eval.proofs.GatherFacts.{over_notes, walk_over}
@@ -25,6 +27,26 @@ use Rattle.flow_eval.proofs.walk.+gathering.Goals as goal
 pub gather-returns-then-is_over-clause-answer : goal.gather-returns-then-is_over-clause-answer
 gather-returns-then-is_over-clause-answer t c = λ g bs stand.
     over_notes c.args.out.now.items _ (walk_over (declarations c.args.basis.now.decls.now) c.args.basis.now.fixings.now c.args.basis.now.until (contract c.args.c.now) g bs c.args.here.decimals c.args.here.day (sym c.is_over.ensures ∙ c.if-is_over.true))
+
+pub gather-returns-in-Both-clause-answer : goal.gather-returns-in-Both-clause-answer
+gather-returns-in-Both-clause-answer t c = λ g bs stand.
+    subst (λ (x : Contract). Gathers (walk_of (declarations c.args.basis.now.decls.now) c.args.here.decimals x g bs c.args.basis.now.fixings.now c.args.here.day c.args.basis.now.until) c.args.out.now.items c.gather_both.new.out.items c.gather_both.result)
+    (ap₂ (λ (x y : Contr). Both (contract x) (contract y)) c.deref.ensures c.deref-in-Both.ensures ∙ ap (λ (x : Contr). contract x) (sym c.in-Both.is)) (c.gather_both.ensures.answer g bs stand)
+
+pub gather-returns-in-Scale-clause-answer : goal.gather-returns-in-Scale-clause-answer
+gather-returns-in-Scale-clause-answer t c = λ g bs stand.
+    subst (λ (x : Contract). Gathers (walk_of (declarations c.args.basis.now.decls.now) c.args.here.decimals x g bs c.args.basis.now.fixings.now c.args.here.day c.args.basis.now.until) c.args.out.now.items c.gather_scaled.new.out.items c.gather_scaled.result)
+    (ap (λ (y : Contr). Scale (expression c.in-Scale.factor) (contract y)) c.deref-in-Scale.ensures ∙ ap (λ (x : Contr). contract x) (sym c.in-Scale.is)) (c.gather_scaled.ensures.answer g bs stand)
+
+pub gather-returns-in-Let-clause-answer : goal.gather-returns-in-Let-clause-answer
+gather-returns-in-Let-clause-answer t c = λ g bs stand.
+    subst (λ (x : Contract). Gathers (walk_of (declarations c.args.basis.now.decls.now) c.args.here.decimals x g bs c.args.basis.now.fixings.now c.args.here.day c.args.basis.now.until) c.args.out.now.items c.gather_bound.new.out.items c.gather_bound.result)
+    (ap (λ (y : Contr). Let (expression c.in-Let.bound) (contract y)) c.deref-in-Let.ensures ∙ ap (λ (x : Contr). contract x) (sym c.in-Let.is)) (c.gather_bound.ensures.answer g bs stand)
+
+pub gather-returns-in-Within-clause-answer : goal.gather-returns-in-Within-clause-answer
+gather-returns-in-Within-clause-answer t c = λ g bs stand.
+    subst (λ (x : Contract). Gathers (walk_of (declarations c.args.basis.now.decls.now) c.args.here.decimals x g bs c.args.basis.now.fixings.now c.args.here.day c.args.basis.now.until) c.args.out.now.items c.gather_within.new.out.items c.gather_within.result)
+    (ap₂ (λ (x y : Contr). Within (expression c.in-Within.test) (day_count c.in-Within.days) (contract x) (contract y)) c.deref-in-Within.ensures c.deref-in-Within-2.ensures ∙ ap (λ (x : Contr). contract x) (sym c.in-Within.is)) (c.gather_within.ensures.answer g bs stand)
 
 pub gather_within-gather-requires : goal.gather_within-gather-requires
 gather_within-gather-requires t c = (
