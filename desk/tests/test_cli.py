@@ -9,7 +9,7 @@ import unittest
 from types import ModuleType
 from unittest import mock
 
-from tests.support import DESK, Room, run_desk
+from tests.support import DESK, Room, run_desk, the_program
 from tilugba import cli
 from tilugba.desk import Desk
 from tilugba.program import Stop
@@ -180,6 +180,22 @@ class Processes(Room):
                     )
                     self.assertEqual((ran.returncode, bool(ran.stdout)), (status, status == 0))
                     self.assertEqual(ran.stderr.count(b"\n"), closed == (1,))
+
+    def test_files_of_a_process_without_streams(self) -> None:
+        """The program reads the files that it is given, whichever stream is closed."""
+        book = self.file("book.txt", "portfolio 1; amounts 2; party A, B; asset EUR;\n")
+        table = self.file("table.csv", "label,day,value\n")
+        for streams in "<&-", ">&-", "2>&-", "<&- >&-", "<&- >&- 2>&-":
+            with self.subTest(streams=streams):
+                ran = subprocess.run(
+                    ["sh", "-c", f'exec "$0" "$@" {streams}', DESK / "tilugba-desk"]
+                    + ["lint", book, table, "--program", the_program().path, "--seconds", "60"],
+                    capture_output=True,
+                    text=True,
+                )
+                is_closed = ">&-" in streams.split()
+                self.assertEqual(ran.returncode, 4 if is_closed else 1, ran.stderr)
+                self.assertEqual(ran.stdout.count("no contract has"), 0 if is_closed else 3)
 
     def test_the_script_runs_from_any_folder(self) -> None:
         link = self.folder / "td"
