@@ -45,6 +45,25 @@ class Keeping(Words):
             if it.is_file()
         }
 
+    def test_a_step_whose_lines_are_lost_is_told(self) -> None:
+        """The step is kept, and the fault says so: whoever runs it again would run it twice."""
+        for number, words in enumerate(
+            (("advance", self.wrong, "--to", "2026-01-06"), ("correct", self.right)), 1
+        ):
+            with open("/dev/full", "wb") as full:
+                ran = subprocess.run(
+                    [DESK / "tilugba-desk", "book", "keep", self.kept, *words],
+                    env={**os.environ, "TILUGBA": str(the_program().path)},
+                    stdout=full,
+                    stderr=subprocess.PIPE,
+                    text=True,
+                )
+            self.assertEqual(ran.returncode, 4)
+            kept = self.kept / f"{number:04}"
+            self.assertIn("the output was not written whole: ", ran.stderr)
+            self.assertTrue(ran.stderr.endswith(f"; the step is kept, as {kept}\n"), ran.stderr)
+            self.assertTrue((kept / "event").is_file())
+
     def test_what_is_kept(self) -> None:
         ran = self.keep("advance", self.wrong, "--to", "2026-01-06")
         self.assertEqual((ran.status, ran.errors), (0, ""))

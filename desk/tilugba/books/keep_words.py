@@ -3,10 +3,12 @@
 from __future__ import annotations
 
 import argparse
+from collections.abc import Iterator
+from contextlib import contextmanager
 from pathlib import Path
 
 from ..desk import Desk
-from ..program import Status
+from ..program import Status, Stop
 from . import folder, ids, keeping, replaying
 from .book import file_of, read_book
 from .events import ADD, ADVANCE, AMEND, BEGIN, CORRECT, DROP, JOIN, NOVATE, PRUNE, Event, event
@@ -106,11 +108,24 @@ def run_begin(arguments: argparse.Namespace, desk: Desk) -> int:
     return Status.DONE
 
 
+@contextmanager
+def telling_of(kept: folder.Kept) -> Iterator[None]:
+    """Where the output of a step that is kept cannot be written, the fault says that it is kept."""
+    try:
+        yield
+    except Stop as stop:
+        if stop.status != Status.NOT_WRITTEN:
+            raise
+        step = kept.path / f"{kept.count:04}"
+        raise Stop(stop.status, f"{stop.message}; the step is kept, as {step}") from stop
+
+
 def run_event(arguments: argparse.Namespace, desk: Desk) -> int:
     kept = folder.read_kept(arguments.folder)
     table = table_of(getattr(arguments, "ids", None))
     changed = keeping.happened(desk.program, kept, event_of(arguments), table)
-    printed(desk, changed)
+    with telling_of(kept):
+        printed(desk, changed)
     if arguments.event == PRUNE:
         desk.tell(changed.gone)
     return Status.DONE
@@ -119,7 +134,8 @@ def run_event(arguments: argparse.Namespace, desk: Desk) -> int:
 def run_correct(arguments: argparse.Namespace, desk: Desk) -> int:
     kept = folder.read_kept(arguments.folder)
     lines = keeping.correction(desk.program, kept, file_of(arguments.new))
-    desk.write(*(f"{line}\n" for line in lines.told(kept.book().calendar)))
+    with telling_of(kept):
+        desk.write(*(f"{line}\n" for line in lines.told(kept.book().calendar)))
     return Status.DONE
 
 
