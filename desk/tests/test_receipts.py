@@ -3,6 +3,7 @@
 import hashlib
 import json
 import os
+import resource
 import subprocess
 import threading
 import unittest
@@ -356,6 +357,18 @@ class Others(Receipts):
         ran = run_desk("explain", "--receipt", "none/r.jsonl", "check", "1.txt")
         self.assertEqual((ran.status, ran.output), (4, ""))
         self.assertIn("none/r.jsonl was not written: No such file", ran.errors)
+
+    def test_a_receipt_that_does_not_fit_leaves_those_before_it(self) -> None:
+        words = ("explain", "--receipt", "r.jsonl", "check", "1.txt")
+        self.assertEqual(run_desk(*words).status, 0)
+        before = Path("r.jsonl").read_bytes()
+        limit = resource.getrlimit(resource.RLIMIT_FSIZE)
+        resource.setrlimit(resource.RLIMIT_FSIZE, (len(before) + 10, limit[1]))
+        try:
+            self.assertEqual(run_desk(*words).status, 4)
+        finally:
+            resource.setrlimit(resource.RLIMIT_FSIZE, limit)
+        self.assertEqual(Path("r.jsonl").read_bytes(), before)
 
     def test_a_file_with_something_else_stays(self) -> None:
         book = self.file("0.txt", "portfolio 4;").read_bytes()

@@ -7,6 +7,7 @@ A receipt proves nothing. It says which bytes to compare, and which words to run
 from __future__ import annotations
 
 import datetime
+import errno
 import hashlib
 import json
 import os
@@ -109,9 +110,13 @@ def add(path: Path, receipt: Receipt) -> None:
     """
     if has_no_receipts(path):
         raise Stop(Status.NOT_WRITTEN, f"{path} is there, and is no file of receipts")
+    line = receipt.line.encode()
     try:
-        with open(path, "ab") as file:
-            file.write(receipt.line.encode())
+        with open(path, "ab", buffering=0) as file:
+            written = file.write(line)
+            if written < len(line):  # a part of a line would spoil the next one too
+                file.truncate(file.tell() - written)
+                raise OSError(errno.ENOSPC, os.strerror(errno.ENOSPC))
     except (OSError, ValueError) as error:
         raise Stop(Status.NOT_WRITTEN, f"{path} was not written: {reason_of(error)}") from error
 
