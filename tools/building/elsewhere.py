@@ -16,7 +16,7 @@ import sys
 from collections.abc import Iterator
 from pathlib import Path
 
-from . import library, retarget, wasm
+from . import library, retarget, toolchain, wasm
 from .compiling import AS_TEXT, hints, must_run, run, without_checks
 from .retarget import AARCH64, OPTIONS, WASM64, Target
 from .sources import Sources, Stop
@@ -86,7 +86,8 @@ class Elsewhere:
 
     def keep_proved(self) -> None:
         """Leaves the module that is compiled of the proved crate."""
-        self.build(self.tools_that_keep(), "proved.a")
+        script = KEEPER.format(room=self.room, clang=self.clang)
+        self.build(toolchain.tools_with_compiler(self.kit, self.room / "tools", script), "proved.a")
         if not (self.room / "module.bc").is_file():
             raise Stop(f"the toolchain builds {library.CRATE} without a module that can be kept")
         as_text = [it if it != "checked.ll" else self.module.name for it in AS_TEXT]
@@ -108,18 +109,6 @@ class Elsewhere:
         done = run(words, cwd=top / "crates" / library.CRATE)
         if done.returncode or PROVED not in done.stdout:
             raise Stop(f"the toolchain does not prove and build {library.CRATE}: {last(done)}")
-
-    def tools_that_keep(self) -> Path:
-        """The folder of the toolchain's tools, with links to all but the compiler."""
-        tools, own = self.room / "tools", self.kit / "toolchain"
-        (tools / "bin").mkdir(parents=True)
-        for it in [*own.iterdir(), *(own / "bin").iterdir()]:
-            if it not in (own / "bin", own / "bin/clang"):
-                (tools / it.relative_to(own)).symlink_to(it)
-        keeper = tools / "bin/clang"
-        keeper.write_text(KEEPER.format(room=self.room, clang=self.clang), encoding="utf-8")
-        keeper.chmod(0o755)
-        return tools
 
     def compile_for(self, target: Target, name: str) -> Path:
         """Compiles the module for a processor, as the toolchain compiles for it."""

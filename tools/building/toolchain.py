@@ -39,3 +39,16 @@ def at_hand(top: Path) -> Toolchain:
         cure = f"put that one first in the PATH, or write the other into {FILE}"
         raise Stop(f"rt is `{version}`, and the sources are proved with `{wanted}`: {cure}")
     return Toolchain(version, Path(said_by_rt("doc")).parent, version == wanted)
+
+
+def tools_with_compiler(kit: Path, folder: Path, script: str) -> Path:
+    """Makes a folder of the toolchain's tools, with links to all but the compiler, which is the script there."""
+    own = kit / "toolchain"
+    (folder / "bin").mkdir(parents=True)
+    for it in [*own.iterdir(), *(own / "bin").iterdir()]:
+        if it not in (own / "bin", own / "bin/clang"):
+            (folder / it.relative_to(own)).symlink_to(it)
+    compiler = folder / "bin/clang"
+    compiler.write_text(script, encoding="utf-8")
+    compiler.chmod(0o755)
+    return folder
