@@ -16,6 +16,12 @@ HELLO = b"Content-Length: %d\r\n\r\n%b" % (len(HELLO), HELLO)
 LATE = 60.0
 
 
+def as_usual() -> None:
+    """No signal is ignored, as some are below `nohup` or behind `&`, where this test may run."""
+    for it in SIGNALS:
+        signal.signal(it, signal.SIG_DFL)
+
+
 class Stopped(Room):
     def setUp(self) -> None:
         super().setUp()
@@ -37,6 +43,7 @@ class Stopped(Room):
         started = subprocess.Popen(
             [DESK / "tilugba-desk", words[0], "--program", self.slow, *words[1:]],
             cwd=self.folder,
+            preexec_fn=as_usual,
             **pipes,
         )
         self.addCleanup(started.communicate)
