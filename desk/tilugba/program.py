@@ -395,9 +395,11 @@ def file_name(word: str | os.PathLike[str] | bytes, handles: list[int]) -> str:
     if not isinstance(word, bytes):
         return os.fspath(word)
     opened = os.memfd_create(NAME)
-    # A number below 3 is that of a stream, if this process has none: the program has its own there.
-    handle = fcntl.fcntl(opened, fcntl.F_DUPFD_CLOEXEC, 3)
-    os.close(opened)
+    try:
+        # Below 3 are the streams, if this process has none: the program has its own there.
+        handle = fcntl.fcntl(opened, fcntl.F_DUPFD_CLOEXEC, 3)
+    finally:
+        os.close(opened)
     handles.append(handle)
     with open(handle, "wb", closefd=False) as file:
         file.write(word)
