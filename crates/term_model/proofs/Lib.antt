@@ -12,6 +12,7 @@ pub mod Products
 pub mod AlikeFacts
 pub mod ReadFacts
 pub mod FirstFacts
+pub mod CloneFacts
 pub mod ContractReadFacts
 pub mod ReadLawFacts
 pub mod ShiftFacts
