@@ -4,7 +4,8 @@ TABLE has a header. If its first column is `month`, each further column is a row
 `day`, each is a line in steps; days are all numbers or all dates. If it is `value`, as `histogram`
 prints it, the bars of a step go from its beginning to the next one. TITLE is above the picture, and
 is its title for browsers and screen readers; --unit names the unit of amounts on its axis. A
-comment in PICTURE has the checksum of TABLE, so that it can be seen of which table it is.
+comment in PICTURE has the checksum of TABLE, so that it can be seen of which table it is. A picture
+that has such a comment is drawn anew; any other file that is there is not written over.
 
 Ends with 0; 3 if TABLE is not read; 4 if PICTURE is not written; 7 if TABLE is no such table; 69 if
 gnuplot is not installed, and 70 if it draws nothing.
@@ -22,8 +23,8 @@ from pathlib import Path
 from xml.sax.saxutils import escape
 
 from ..desk import Desk
-from ..program import Status, Stop, reason_of
-from ..tables import read_file
+from ..files import create, read_file, replace
+from ..program import Status, Stop
 
 # The status of a service that is not there.
 UNAVAILABLE = 69
@@ -32,6 +33,9 @@ NUMBER, MONTH, DATE = "-?[0-9]{1,40}", "[0-9]{4}-[0-9]{2}", "[0-9]{4}-[0-9]{2}-[
 AMOUNTS = "(?:,-?[0-9]+(?:[.][0-9]+)?)+"
 # What the first column of each kind of table may be, all rows alike.
 FIRSTS = {"month": (f"{MONTH}|{DATE}|{NUMBER}",), "value": (NUMBER,), "day": (NUMBER, DATE)}
+# The end of each picture.
+MARK = b"<!-- of a table with the sha256 sum %s -->\n"
+MADE = re.compile(MARK % b"[0-9a-f]{64}" + rb"\Z")
 ALIKE = """set terminal svg size 900,400 font 'sans,13' background 'white' name 'picture'
 set datafile separator ','
 set title "%s" noenhanced
@@ -85,15 +89,20 @@ def run(arguments: argparse.Namespace, desk: Desk) -> int:
     drawn = subprocess.run(["gnuplot"], input=script, stdout=subprocess.PIPE, check=False)
     if drawn.returncode != 0 or b"</svg>" not in drawn.stdout:
         raise Stop(Status.DESK, "gnuplot draws nothing")
-    mark = f"<!-- of a table with the sha256 sum {hashlib.sha256(table.data).hexdigest()} -->\n"
     picture = drawn.stdout.replace(
         b"<title>picture</title>", f"<title>{escape(one_line(arguments.title))}</title>".encode()
     )
-    try:
-        Path(arguments.picture).write_bytes(picture.rstrip() + b"\n" + mark.encode())
-    except (OSError, ValueError) as error:
-        raise Stop(Status.NOT_WRITTEN, f"{arguments.picture}: {reason_of(error)}") from error
+    mark = MARK % hashlib.sha256(table.data).hexdigest().encode()
+    put(Path(arguments.picture), picture.rstrip() + b"\n" + mark)
     return Status.DONE
+
+
+def put(path: Path, picture: bytes) -> None:
+    """Writes a new picture, or one in the place of an older one that was drawn here."""
+    if path.is_file() and MADE.search(read_file(path)):
+        replace(path, picture)
+    else:
+        create(path, picture)
 
 
 @dataclass(frozen=True)
