@@ -2,7 +2,7 @@
 
 ghost use Rattle.std.specs.Prelude.{◌≡◌, ◌<◌, ◌≤◌, ◌+◌, IfOk, map};
 ghost use Rattle.std.specs.List.{range_with_len};
-ghost use Rattle.term_model.specs.Terms.{contract, expression};
+ghost use Rattle.term_model.specs.Terms.{contract, expression, Both, Pay, Scale};
 ghost use Rattle.schedule_forms.specs.PaymentSizes.{expression_of_size};
 ghost use Rattle.schedule_forms.specs.PlanLimits.{IsLegWithinLimits, IsSizeWithinLimits, IsWithinLimits};
 ghost use Rattle.schedule_forms.specs.Expansions.{balanced, cover_payment, dated_payment, expansion, guarded, payment, payments};
@@ -35,11 +35,11 @@ fn expression_of_size(alloc: Global, size: &Size) -> Result<Expr, NoMemory>
                 label: *label,
                 offset: -(*lag as i32),
             };
+            let left = Box::new(alloc, observed)?;
             let notional = Expr::Lit {
                 mant: *mant,
                 scale: *mant_scale,
             };
-            let left = Box::new(alloc, observed)?;
             let right = Box::new(alloc, notional)?;
             let product = Expr::Num {
                 op: NumOp::Times,
@@ -56,19 +56,28 @@ fn expression_of_size(alloc: Global, size: &Size) -> Result<Expr, NoMemory>
     }
 }
 
+// A payment of a size, from one party to another.
+fn sized_payment(
+    alloc: Global,
+    factor: Expr,
+    asset: u32,
+    from: u32,
+    to: u32,
+) -> Result<Box<Contr>, NoMemory>
+    ensures { IfOk result (λ c. contract c.value ≡ Scale (expression factor) (Pay asset from to)) }
+{
+    let pay = Contr::Pay { asset, from, to };
+    let body = Box::new(alloc, pay)?;
+    Ok(Box::new(alloc, Contr::Scale { factor, body })?)
+}
+
 // A payment of a leg, on the day on which it is made.
 fn payment(alloc: Global, leg: &Leg) -> Result<Box<Contr>, NoMemory>
     requires { IsSizeWithinLimits leg.now.size }
     ensures { IfOk result (λ c. contract c.value ≡ payment leg.now) }
 {
     let factor = expression_of_size(alloc, &leg.size)?;
-    let pay = Contr::Pay {
-        asset: leg.asset,
-        from: leg.from,
-        to: leg.to,
-    };
-    let body = Box::new(alloc, pay)?;
-    Ok(Box::new(alloc, Contr::Scale { factor, body })?)
+    sized_payment(alloc, factor, leg.asset, leg.from, leg.to)
 }
 
 // The payment of a leg with this number, after its days.
@@ -115,14 +124,8 @@ fn payments(alloc: Global, leg: &Leg) -> Result<Contr, NoMemory>
 fn cover_payment(alloc: Global, leg: &Leg, mant: i128, scale: u8) -> Result<Box<Contr>, NoMemory>
     ensures { IfOk result (λ c. contract c.value ≡ cover_payment leg.now mant scale) }
 {
-    let pay = Contr::Pay {
-        asset: leg.asset,
-        from: leg.to,
-        to: leg.from,
-    };
     let factor = Expr::Lit { mant, scale };
-    let body = Box::new(alloc, pay)?;
-    Ok(Box::new(alloc, Contr::Scale { factor, body })?)
+    sized_payment(alloc, factor, leg.asset, leg.to, leg.from)
 }
 
 // What ends a leg: a flag, and the cover that is paid on its first day.
@@ -131,6 +134,14 @@ struct Guard {
     flag: u32,
     mant: i128,
     scale: u8,
+}
+
+// A payment, and what follows it.
+fn followed(alloc: Global, paid: Box<Contr>, rest: Contr) -> Result<Box<Contr>, NoMemory>
+    ensures { IfOk result (λ c. contract c.value ≡ Both (contract paid.value) (contract rest)) }
+{
+    let right = Box::new(alloc, rest)?;
+    Ok(Box::new(alloc, Contr::Both { left: paid, right })?)
 }
 
 // The next payment of a leg, so many days from here, and so many further ones.
@@ -146,18 +157,17 @@ fn guarded(
         ≡ guarded leg.now guard.now.flag
         (cover_payment leg.now guard.now.mant guard.now.scale) days further) }
 {
-    let test = Expr::Obs {
-        label: guard.flag,
-        offset: 0,
-    };
-    let hit = cover_payment(alloc, leg, guard.mant, guard.scale)?;
     let paid = payment(alloc, leg)?;
     let miss = if further == 0 {
         paid
     } else {
-        let right = guarded(alloc, leg, guard, leg.every, further - 1)?;
-        let right = Box::new(alloc, right)?;
-        Box::new(alloc, Contr::Both { left: paid, right })?
+        let rest = guarded(alloc, leg, guard, leg.every, further - 1)?;
+        followed(alloc, paid, rest)?
+    };
+    let hit = cover_payment(alloc, leg, guard.mant, guard.scale)?;
+    let test = Expr::Obs {
+        label: guard.flag,
+        offset: 0,
     };
     Ok(Contr::Within {
         test,
