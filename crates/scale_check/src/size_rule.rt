@@ -27,17 +27,13 @@ fn size_of_expr(e: &Expr) -> Result<Size, u32>
     ensures below { FaultIsWithin (nodes (expression e.now)) result }
 {
     match e {
-        Expr::Lit { .. } => Size::leaf(0).limited(0),
-        Expr::Yes { .. } => Size::leaf(0).limited(0),
-        Expr::Var { .. } => Size::leaf(0).limited(0),
+        Expr::Lit { .. } | Expr::Yes { .. } | Expr::Var { .. } => Size::leaf(0).limited(0),
         Expr::Obs { offset, .. } => Size::leaf(days_back(*offset)).limited(0),
-        Expr::Neg { of } => size_over_one(of),
-        Expr::Not { of } => size_over_one(of),
-        Expr::Widen { of, .. } => size_over_one(of),
-        Expr::Round { of, .. } => size_over_one(of),
-        Expr::Num { left, right, .. } => size_over_two(left, right),
-        Expr::Cmp { left, right, .. } => size_over_two(left, right),
-        Expr::Logic { left, right, .. } => size_over_two(left, right),
+        Expr::Neg { of } | Expr::Not { of } | Expr::Widen { of, .. } | Expr::Round { of, .. } =>
+            size_over_one(of),
+        Expr::Num { left, right, .. }
+        | Expr::Cmp { left, right, .. }
+        | Expr::Logic { left, right, .. } => size_over_two(left, right),
         Expr::Div { top, below, .. } => size_over_two(top, below),
         Expr::Cond { test, yes, no } => size_over_three(test, yes, no),
         Expr::Acc { body, days, first } => size_over_days(body, *days, first),
@@ -113,8 +109,7 @@ fn try_size(c: &Contr) -> Result<Size, u32>
     ensures below { FaultIsWithin (nodes_of_contract (contract c.now)) result }
 {
     match c {
-        Contr::Zero => Size::unit().limited(0),
-        Contr::Pay { .. } => Size::unit().limited(0),
+        Contr::Zero | Contr::Pay { .. } => Size::unit().limited(0),
         Contr::Both { left, right } => {
             let left_size = behind_node(try_size(left))?;
             let right_size = behind_contract(left, try_size(right))?;
